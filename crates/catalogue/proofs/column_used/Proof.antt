@@ -1,0 +1,39 @@
+-- `catalogue::column_used` meets its contract. The loop goes back from record i: what is left of the records before it decides.
+-- Assumes nothing.
+use Prim.Native.Nat.{_≤_}
+use mathlib.Core.Path.{_≡_}
+use Rattle.catalogue.proofs.Laws.{looks}
+use Rattle.catalogue.specs.Fault.{columnUsed}
+use Rattle.catalogue.proofs.column_used.Statement.{statement}
+use Rattle.catalogue.proofs.column_used.Tie as tie
+
+abbrev Inv-loop : tie.InvT-loop
+Inv-loop cat i name j₀ j = (j ≤ i) × (columnUsed cat name i ≡ columnUsed cat name j)
+
+abbrev μ-loop : tie.MeasureT-loop
+μ-loop cat i name j₀ j = j
+
+pub column-used-spec : {M : Type 1} → statement M
+column-used-spec =
+    tie.close
+    (tie.spec
+    Inv-loop
+    μ-loop
+    -- loop-holds
+    (λ c. search looks)
+    -- sub-j
+    (λ c. search looks)
+    -- kind-at-requires
+    (λ c κs. search looks)
+    -- returns
+    (λ c. search looks)
+    -- a-at-requires
+    (λ c κs. search looks)
+    -- returns-2
+    (λ c. search looks)
+    -- loop-less
+    (λ c. search looks)
+    -- loop-again
+    (λ c. search looks)
+    -- returns-3
+    (λ c. search looks))

@@ -1,0 +1,21 @@
+-- `cell::same_type` meets its contract: the code's test is the definition's.
+-- Assumes nothing.
+use borrow.Author.Needs.{needs}
+use Rattle.cell.specs.Types.{sameType}
+use Rattle.cell.proofs.types.same_type.Statement.{statement}
+use Rattle.cell.proofs.types.same_type.Tie as tie
+
+pub same-type-spec : {M : Type 1} → statement M
+unfolding sameType
+same-type-spec =
+    tie.close
+    (tie.spec
+    (λ c κs. search needs)
+    (λ c κs. search needs)
+    (λ c κs. search needs)
+    (λ c κs. search needs)
+    (λ c κs. search needs)
+    (λ c κs. search needs)
+    (λ c κs. search needs)
+    (λ c κs. search needs)
+    (λ c. cc))

@@ -1,0 +1,4 @@
+pub mod Res
+pub mod Types
+pub mod Values
+pub mod Apply
