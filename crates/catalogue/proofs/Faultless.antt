@@ -1,11 +1,11 @@
 -- What "no fault" says of a record, by its kind; and what "not used before" says.
 -- Assumes nothing.
-use Prim.Native.Nat.{ℕ, zero, suc, _+_, _-_, _*_, _/_, _%_, _<_, _≤_}
-use mathlib.Core.Path.{_≡_, refl, sym, ap, _∙_}
+use Prim.Native.Nat.{ℕ, zero, suc, _+_, _-_, _/_, _%_, _<_, _≤_}
+use mathlib.Core.Path.{_≡_, refl, sym, _∙_}
 use mathlib.Core.Bool.{Bool, true, false, cond, _&&_}
 use mathlib.Core.List.{List}
 use native.Mathlib.Omega.{arith}
-use borrow.Author.Tests.{leb-true, ltb-true, eqb-true, eqb-false, eq-eqb, ne-eqb}
+use borrow.Author.Tests.{leb-true, ltb-true, eqb-true, eqb-false, eq-eqb}
 use lib.Dec.{eqb, ltb, leb}
 use Rattle.word.specs.Record.{kindAt, opAt, aAt, cAt}
 use Rattle.cell.specs.Types.{typeRule}
@@ -93,3 +93,25 @@ unused-table c name (suc i) e j h k m = go (eqb j i) refl (unused-table c name i
         let b : eqb (aAt c i) name ≡ true = eq-eqb (aAt c i) name (rw y at m) in
         let d : true ≡ false = sym (rw (a, b)) ∙ q in let g : _≡_ {A = ℕ} 0 1 = cc in omega arith
     go false p ih false q w = ih w j (let y : j ≡ i → ⊥ = eqb-false j i p in omega (arith, y)) k m
+
+-- a column's name that isn't used before i stands in no column record before i with no table record between
+pub unused-column : (c : List ℕ) (name i : ℕ) → columnUsed c name i ≡ false → (j : ℕ) → j < i → ((k : ℕ) → j < k → k < i → kindAt c k ≡ 1 → ⊥) → kindAt c j ≡ 2 → aAt c j ≡ name → ⊥
+unfolding columnUsed
+unused-column c name zero e j h f k m = omega arith
+unused-column c name (suc i) e j h f k m = go (eqb j i) refl (unused-column c name i) (eqb (kindAt c i) 1) refl (eqb (kindAt c i) 2 && eqb (aAt c i) name) refl e
+  where
+    go : (t : Bool) → eqb j i ≡ t
+        → (columnUsed c name i ≡ false → (j : ℕ) → j < i → ((k : ℕ) → j < k → k < i → kindAt c k ≡ 1 → ⊥) → kindAt c j ≡ 2 → aAt c j ≡ name → ⊥)
+        → (a : Bool) → eqb (kindAt c i) 1 ≡ a → (b : Bool) → (eqb (kindAt c i) 2 && eqb (aAt c i) name) ≡ b → cond a false (cond b true (columnUsed c name i)) ≡ false → ⊥
+    go true p ih true o b q w =
+        let y : j ≡ i = eqb-true j i p in
+        let l : kindAt c i ≡ 1 = eqb-true (kindAt c i) 1 o in
+        let d : kindAt c i ≡ 2 = rw y at k in omega (arith, l, d)
+    go false p ih true o b q w = f i (let y : j ≡ i → ⊥ = eqb-false j i p in omega (arith, y)) (omega arith) (eqb-true (kindAt c i) 1 o)
+    go t p ih false o true q w = let g : _≡_ {A = ℕ} 0 1 = cc in omega arith
+    go true p ih false o false q w =
+        let y : j ≡ i = eqb-true j i p in
+        let a : eqb (kindAt c i) 2 ≡ true = eq-eqb (kindAt c i) 2 (rw y at k) in
+        let b : eqb (aAt c i) name ≡ true = eq-eqb (aAt c i) name (rw y at m) in
+        let d : true ≡ false = sym (rw (a, b)) ∙ q in let g : _≡_ {A = ℕ} 0 1 = cc in omega arith
+    go false p ih false o false q w = ih w j (let y : j ≡ i → ⊥ = eqb-false j i p in omega (arith, y)) (λ l u v. f l u (omega arith)) k m

@@ -1,7 +1,8 @@
--- The laws of the catalogue: Laws and Places for the code, Meaning and Faultless for whoever takes an accepted one, Samples worked cases.
+-- The laws of the catalogue: Laws and Places for the code; Meaning, Faultless and Listed for whoever takes an accepted one; Samples worked cases.
 -- Assumes nothing.
 pub mod Laws
 pub mod Meaning
 pub mod Places
 pub mod Faultless
+pub mod Listed
 pub mod Samples

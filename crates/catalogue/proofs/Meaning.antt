@@ -1,19 +1,19 @@
 -- What the check's answer means: an accepted catalogue has no fault at any record, a refused one has its fault at the lowest record that has one.
 -- And what the passes over an accepted catalogue start from. Assumes nothing.
-use Prim.Native.Nat.{ℕ, zero, suc, _+_, _-_, _*_, _/_, _%_, _<_, _≤_}
+use Prim.Native.Nat.{ℕ, zero, suc, _+_, _-_, _*_, _<_, _≤_}
 use mathlib.Core.Path.{_≡_, refl, sym, ap, _∙_}
 use mathlib.Core.Bool.{Bool, true, false, cond, _&&_}
-use mathlib.Core.List.{List, [], _∷_}
+use mathlib.Core.List.{List, _∷_}
 use native.Mathlib.Omega.{arith}
 use native.Mathlib.Numerals.{add-one}
-use borrow.Author.Tests.{leb-true, eqb-true, eqb-false, eq-eqb, ne-eqb}
+use borrow.Author.Tests.{leb-true, eqb-true, eqb-false, eq-eqb}
 use lib.ListN.{length, getD, take, drop, replicate}
 use lib.Seq.{take-at}
-use lib.Dec.{eqb, ltb, leb}
+use lib.Dec.{eqb, leb}
 use Rattle.word.specs.Bytes.{within}
 use Rattle.word.specs.Header.{drc, headed, countAt}
 use Rattle.word.specs.Record.{kindAt}
-use Rattle.catalogue.specs.Fault.{tablesBefore, columnsBefore, faultBy, faultAt, lowest, checkOf}
+use Rattle.catalogue.specs.Fault.{tablesBefore, faultAt, lowest, checkOf}
 use Rattle.catalogue.specs.Tables.{tableAt, tablesFrom, catalogueOf}
 use Rattle.catalogue.specs.Starts.{startsFrom, startsOf, startsArray, StartsAre}
 use Rattle.catalogue.specs.declared.Verdict.{Verdict}
@@ -220,6 +220,9 @@ module _ (c : List ℕ) (t : ℕ) (v : Verdict) (e : v ≡ checkOf c) (f : v ≡
   pub taken-header : 6 + 2 ≤ length c
   taken-header = omega (arith, taken .long-enough)
 
+  pub taken-tables : t ≤ 32
+  taken-tables = taken .few-tables
+
   module _ (n : ℕ) (k : n ≡ countAt c) where
     -- n records may be read
     pub taken-records : 8 + 8 * n ≤ length c
@@ -236,4 +239,4 @@ module _ (c : List ℕ) (t : ℕ) (v : Verdict) (e : v ≡ checkOf c) (f : v ≡
       are = ap (take t) s ∙ array-front c n t (counted-by c n t (taken .starts-length) k) (taken .few-tables);
     }
 
-pub ruleset takes = (taken-header, taken-records, taken-few, taken-starts)
+pub ruleset takes = (taken-header, taken-tables, taken-records, taken-few, taken-starts)

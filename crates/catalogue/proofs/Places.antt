@@ -1,21 +1,21 @@
 -- Where the tables stand: the array of their records as the code fills it, what it says, and a table by its name over it.
 -- Assumes nothing.
-use Prim.Native.Nat.{ℕ, zero, suc, _+_, _-_, _*_, _<_, _≤_}
+use Prim.Native.Nat.{ℕ, zero, suc, _+_, _-_, _<_, _≤_}
 use mathlib.Core.Path.{_≡_, refl, sym, ap, _∙_}
 use mathlib.Core.Bool.{Bool, true, false, cond}
 use mathlib.Core.List.{List, [], _∷_, _++_}
 use native.Mathlib.Omega.{arith}
 use native.Mathlib.Numerals.{add-one}
 use borrow.Author.Needs.{needs}
-use borrow.Author.Tests.{eq-eqb, ne-eqb, lt-ltb, le-ltb, eqb-true}
+use borrow.Author.Tests.{eq-eqb, ne-eqb, lt-ltb, le-ltb, eqb-true, ltb-false}
 use lib.Dec.{eqb, ltb}
-use lib.ListN.{length, getD, set, take, drop, replicate, drop-of-length-le}
+use lib.ListN.{length, getD, set, drop, replicate, drop-of-length-le}
 use lib.Seq.{drop-cons, set-out, getD-take, length-take-le}
-use Rattle.word.specs.Buffer.{put, Wrote}
+use Rattle.word.specs.Buffer.{Wrote}
 use Rattle.word.specs.Record.{kindAt, aAt}
 use Rattle.word.proofs.Writing.{put-nil, put-one, Todo, todo-all, todo-same, todo-less, todo-none, kept}
 use Rattle.cell.specs.Res.{Res, stuck, done}
-use Rattle.catalogue.specs.Tables.{TabRef, Table, tableAt, tablesFrom, later, tableNamed}
+use Rattle.catalogue.specs.Tables.{TabRef, tableAt, tablesFrom, later, tableNamed}
 use Rattle.catalogue.specs.Starts.{startsFrom, startsArray, StartsAre, refBy}
 
 -- ---- the array, as the code fills it
@@ -171,5 +171,25 @@ module _ (c : List ℕ) (n name : ℕ) where
     find-none h =
         let l : length (startsFrom c n 0) ≤ j = omega (arith, starts-number c n tables ss a) in
         x ∙ rw (drop-of-length-le (startsFrom c n 0) l, le-ltb tables tables (omega arith))
+
+-- what the number that was found says: below `tables` a table, from there on none; and it is the only one
+module _ (c : List ℕ) (n : ℕ) (ss : List ℕ) (tables r : ℕ) where
+  pub ref-found : r < tables → refBy c n ss tables r ≡ done (record { num = r; table = tableAt c n (getD ss r 0) })
+  unfolding refBy
+  ref-found h = rw (lt-ltb r tables h)
+
+  pub ref-none : tables ≤ r → refBy c n ss tables r ≡ stuck
+  unfolding refBy
+  ref-none h = rw (le-ltb r tables h)
+
+  pub found-once : (q : ℕ) → refBy c n ss tables r ≡ refBy c n ss tables q → r ≤ tables → q ≤ tables → r ≡ q
+  unfolding refBy
+  found-once q e h k = go (ltb r tables) (ltb q tables) (record { num = r; table = tableAt c n (getD ss r 0) }) (record { num = q; table = tableAt c n (getD ss q 0) }) refl refl e refl refl
+    where
+      go : (a b : Bool) (x y : TabRef) → ltb r tables ≡ a → ltb q tables ≡ b → cond a (done x) stuck ≡ cond b (done y) stuck → x .num ≡ r → y .num ≡ q → r ≡ q
+      go true true x y f g w d e = let v : x ≡ y = cc in sym d ∙ ap (λ t. t .num) v ∙ e
+      go true false x y f g w d e = absurd (let z : _≡_ {A = ℕ} 0 1 = cc in omega arith)
+      go false true x y f g w d e = absurd (let z : _≡_ {A = ℕ} 0 1 = cc in omega arith)
+      go false false x y f g w d e = omega (arith, ltb-false r tables f, ltb-false q tables g)
 
 pub ruleset finds = (start-fits, find-begin, find-here, find-again, find-none, needs)

@@ -54,6 +54,11 @@ rowSize c n i = cellPlace 0 (columnsFrom c (n - (i + 1)) (i + 1))
 unfoldable pub placeAfter : List ℕ → ℕ → List ℕ → ℕ → ℕ → ℕ
 placeAfter c n s i at = cond (eqb (kindAt c i) 1) (at + 2 + u16At s at * rowSize c n i) at
 
+-- the place of record i's table: behind the tables of the records before it
+unfoldable pub placeOf : List ℕ → ℕ → List ℕ → ℕ → ℕ
+placeOf c n s zero = 8
+placeOf c n s (suc i) = placeAfter c n s i (placeOf c n s i)
+
 -- THE LENGTH: the place behind the tables of the k records from i
 unfoldable pub endFrom : List ℕ → ℕ → List ℕ → ℕ → ℕ → ℕ → ℕ
 endFrom c n s zero i at = at

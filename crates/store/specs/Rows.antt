@@ -7,7 +7,7 @@ use mathlib.Core.List.{List, [], _∷_}
 use lib.ListN.{getD}
 use lib.Dec.{eqb}
 use lib.IntN.{ℤ, natAbs}
-use Rattle.word.specs.Bytes.{u16At, i32At}
+use Rattle.word.specs.Bytes.{u16At, bits32, i32At}
 use Rattle.word.specs.Header.{countAt}
 use Rattle.word.specs.Record.{kindAt, cAt}
 use Rattle.class.specs.Info.{InfoOk}
@@ -26,14 +26,14 @@ pub record Row : Type 0 where
   pub rclass : ℕ
   pub cells : List Cell
 
--- a value of a type by its 32 signed bits
+-- a value of a type by its 32 signed bits; a class is the low 16 of them
 unfoldable pub valueOf : Ty → ℤ → Value
 valueOf T.Null m = Null
 valueOf T.Boolean m = Truth (eqb (natAbs m) 1)
 valueOf (T.Fixed p s) m = Fixed s m
 valueOf (T.Time f) m = Time m
 valueOf (T.Interval f) m = Interval m
-valueOf T.Class m = Class (natAbs m)
+valueOf T.Class m = Class (bits32 m % 65536)
 
 -- the cell at a place, of a type: null mark (0 or 1), zero byte, class, value
 unfoldable pub cellAt : List ℕ → Ty → ℕ → Cell

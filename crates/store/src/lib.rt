@@ -8,6 +8,15 @@ ghost use Rattle.word.specs.Record.{kindAt, opAt, bAt, cAt};
 ghost use Rattle.class.specs.Info.{infoBy};
 ghost use Rattle.store.specs.Layout.{classRule, magnitude, valueRule, cellRule, cellPlace, columnsFrom, rowSize, placeAfter, endFrom, cellsFault, rowFault, rowsFault, tableFault, faultFrom, checkOf, filesOf};
 
+mod places;
+
+pub use places::cell_bits;
+pub use places::cell_class;
+pub use places::cell_null;
+pub use places::cell_value;
+pub use places::row_class;
+pub use places::spans;
+
 pub enum Verdict {
     Fine,
     Refused(u16, usize),

@@ -1,0 +1,3 @@
+pub mod Inversion
+pub mod Weights
+pub mod Leaves

@@ -1,0 +1,6 @@
+pub mod Expr
+pub mod Resolve
+pub mod Infos
+pub mod Sizes
+pub mod Typed
+pub mod Steps

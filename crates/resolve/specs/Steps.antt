@@ -1,0 +1,101 @@
+-- What is known of a value from what is known of its parts, one definition for each kind of node. Wherever sizes are added they stop just above 8,190.
+-- Assumes nothing.
+use Prim.Native.Nat.{ℕ, _+_}
+use mathlib.Core.Bool.{Bool, true, false, cond}
+use mathlib.Core.List.{List, [], _∷_, map}
+use lib.ListN.{length}
+use lib.Dec.{eqb}
+use Rattle.class.specs.declared.Info.{Info}
+use Rattle.class.specs.declared.Info.the-variants.{Fixed}
+use Rattle.cell.specs.Res.{Res, stuck, done}
+use Rattle.cell.specs.Types.{kindOf, binopType, limbType, sameType}
+use Rattle.cell.specs.declared.Type.{«Type» as Ty}
+use Rattle.cell.specs.declared.Type.the-variants as T
+use Rattle.catalogue.specs.Tables.{Table, TabRef}
+use Rattle.scope.specs.declared.Found.{Found}
+use Rattle.scope.specs.declared.Found.the-variants as F
+use Rattle.resolve.specs.Sizes.{capped, weighed, joinW, choiceW, letW, blockW}
+use Rattle.resolve.specs.declared.Weighed.{Weighed}
+use Rattle.resolve.specs.declared.Known.{Known}
+use Rattle.resolve.specs.declared.Typed.{Typed}
+use Rattle.resolve.specs.declared.Typed.the-variants as typed
+
+-- what is known of a value's class
+unfoldable pub classOf : Known → Weighed
+classOf x = record { info = x .info; size = x .classes }
+
+-- a class whose size is stopped
+unfoldable pub stopped : Weighed → Weighed
+stopped w = record { info = w .info; size = capped (w .size) }
+
+-- a value of this type, before this record, whose data takes so many records, with this class
+unfoldable pub knownBy : Ty → ℕ → ℕ → Weighed → Known
+knownBy t next n w = record { ty = t; info = w .info; next = next; values = capped n; classes = capped (w .size) }
+
+-- a constant or a reference: one record
+unfoldable pub leafK : Ty → Info → ℕ → Known
+leafK t i next = knownBy t next 1 (weighed i 1)
+
+unfoldable pub twoK : Ty → Known → Known → Known
+twoK t x y = knownBy t (y .next) (1 + (x .values + y .values)) (joinW (classOf x) (classOf y))
+
+unfoldable pub notK : Known → Known
+notK x = knownBy T.Boolean (x .next) (1 + x .values) (classOf x)
+
+-- a limb brought to a type: CONV is one record more
+unfoldable pub broughtK : Ty → Known → Known
+broughtK t x = knownBy t (x .next) (cond (sameType (x .ty) t) (x .values) (1 + x .values)) (classOf x)
+
+unfoldable pub ifK : Ty → Known → Known → Known → Known
+ifK t c x y =
+    knownBy t (y .next) (1 + (c .values + (x .values + y .values)))
+    (joinW (classOf c) (choiceW (c .values) (classOf x) (classOf y)))
+
+unfoldable pub letK : Known → Known → Known
+letK x y = knownBy (y .ty) (y .next) (1 + (x .values + y .values)) (letW (x .values) (classOf x) (classOf y))
+
+unfoldable pub existsK : List TabRef → Known → Known
+existsK ts x = knownBy T.Boolean (x .next) (1 + (length ts + x .values)) (blockW ts (classOf x ∷ []))
+
+unfoldable pub singleK : List TabRef → Known → Known → Known
+singleK ts x y =
+    knownBy (y .ty) (y .next) (1 + (length ts + (x .values + y .values)))
+    (blockW ts (classOf x ∷ choiceW (x .values) (classOf y) (weighed (Fixed 0) 1) ∷ []))
+
+-- a type rule, and a condition: 9 at the record where it is broken
+unfoldable pub ruledT : ℕ → Res Ty → (Ty → Known) → Typed
+ruledT at stuck f = typed.Refused 9 at
+ruledT at (done t) f = typed.Is (f t)
+
+unfoldable pub boolT : ℕ → Ty → Typed → Typed
+boolT at t r = cond (eqb (kindOf t) 1) r (typed.Refused 9 at)
+
+-- THE ANSWERS at a record, by its kind
+unfoldable pub twoT : ℕ → ℕ → Known → Known → Typed
+twoT at op x y = ruledT at (binopType op (x .ty) (y .ty)) (λ t. twoK t x y)
+
+unfoldable pub notT : ℕ → Known → Typed
+notT at x = boolT at (x .ty) (typed.Is (notK x))
+
+unfoldable pub ifT : ℕ → Known → Known → Known → Typed
+ifT at c x y = boolT at (c .ty) (ruledT at (limbType (x .ty) (y .ty)) (λ t. ifK t c (broughtK t x) (broughtK t y)))
+
+unfoldable pub existsT : ℕ → List TabRef → Known → Typed
+existsT at ts x = boolT at (x .ty) (typed.Is (existsK ts x))
+
+unfoldable pub singleT : ℕ → List TabRef → Known → Known → Typed
+singleT at ts x y = boolT at (x .ty) (typed.Is (singleK ts x y))
+
+-- COL: a column or a local; none is 7, more is 8
+unfoldable pub colT : ℕ → Found → Typed
+colT at (F.Column a b c t i r) = typed.Is (leafK t i (at + 1))
+colT at (F.Local a t i) = typed.Is (leafK t i (at + 1))
+colT at F.None = typed.Refused 7 at
+colT at F.Ambiguous = typed.Refused 8 at
+
+-- CLASSOF: a local counts as no column
+unfoldable pub classT : ℕ → Found → Typed
+classT at (F.Column a b c t i r) = typed.Is (leafK T.Class r (at + 1))
+classT at (F.Local a t i) = typed.Refused 7 at
+classT at F.None = typed.Refused 7 at
+classT at F.Ambiguous = typed.Refused 8 at

@@ -1,0 +1,20 @@
+-- `scope::in_scope` meets its contract: a local, or a block.
+-- Assumes nothing.
+use Rattle.scope.proofs.Search.{entries}
+use Rattle.scope.proofs.in_scope.Statement.{statement}
+use Rattle.scope.proofs.in_scope.Tie as tie
+
+pub in-scope-spec : {M : Type 1} → statement M
+in-scope-spec =
+    tie.close
+    (tie.spec
+    -- returns
+    (λ c. search entries)
+    -- returns-2
+    (λ c. search entries)
+    -- four-requires
+    (λ c κs. search entries)
+    -- in-block-requires
+    (λ c κs. search entries)
+    -- returns-3
+    (λ c. search entries))

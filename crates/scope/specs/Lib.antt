@@ -1,0 +1,6 @@
+-- The definitions of names: Scopes has the rule, Table what an entry says, Match parts of an answer, Blocks a block's tables.
+-- Assumes nothing.
+pub mod Scopes
+pub mod Table
+pub mod Match
+pub mod Blocks

@@ -1,0 +1,11 @@
+-- The laws of a view: what its records say, how the code's answers tell the parser's, and what an accepted view holds.
+-- Assumes nothing.
+pub mod Constants
+pub mod Induction
+pub mod Laws
+pub mod Nodes
+pub mod Read
+pub mod Samples
+pub mod Says
+pub mod Turns
+pub mod Whole

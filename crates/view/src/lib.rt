@@ -1,0 +1,403 @@
+// The structural check of a view: its records stand in prefix order, and are walked once.
+// The definitions are in specs/: Record says what a record means, Parse what a view is.
+ghost use mathlib.Core.Path.{_≡_};
+ghost use mathlib.Core.Bool.{_&&_};
+ghost use Prim.Native.Nat.{_+_, _*_, _^_, _≤_, _<_};
+ghost use lib.ListN.{length};
+ghost use lib.IntN.{natAbs};
+ghost use Rattle.word.specs.Bytes.{signed32, within};
+ghost use Rattle.cell.specs.Types.{digitsRule};
+ghost use Rattle.cell.specs.Values.{digits};
+ghost use Rattle.view.specs.Record.{when, bare, opOnly, aOnly, constOf, nodeOf, nodeAt, slotOf};
+ghost use Rattle.view.specs.Parse.{enter, many, parseTable, parseBlock, parseValue, parseRoot, metOf, walkOf, checkOf};
+
+// What a record says: its kind with the fields that the kind has. Bad: an unknown kind or op, or a field out of rule.
+pub enum Node {
+    Const(cell::Type, cell::Value),
+    Binop(u8),
+    Not,
+    If,
+    Exists(u16),
+    Single(u16),
+    Table(u16),
+    Select(u16, u16),
+    Col(u16, u16),
+    Classof(u16, u16),
+    Let(u16),
+    Bad,
+}
+
+// The node at a record, or a refusal: number and place.
+pub enum Met {
+    Found(Node),
+    Refused(u16, usize),
+}
+
+// The next record, or a refusal: number and place.
+pub enum Walk {
+    Next(usize),
+    Refused(u16, usize),
+}
+
+// The check's answer: the number of records, or a refusal: number and place.
+pub enum Verdict {
+    Records(usize),
+    Refused(u16, usize),
+}
+
+// The node, where its fields keep their rule.
+fn when(kept: bool, node: Node) -> Node
+    ensures { λ r. ⌜ r ≡ when kept node ⌝ }
+{
+    if kept { node } else { Node::Bad }
+}
+
+// No field is named.
+fn bare(r: word::Rec) -> bool
+    ensures { λ o. ⌜ o ≡ bare r ⌝ }
+{
+    ((r.op == 0) & (r.a == 0)) & ((r.b == 0) & (r.c == 0))
+}
+
+// No field but op is named.
+fn op_only(r: word::Rec) -> bool
+    ensures { λ o. ⌜ o ≡ opOnly r ⌝ }
+{
+    (r.a == 0) & ((r.b == 0) & (r.c == 0))
+}
+
+// No field but a is named.
+fn a_only(r: word::Rec) -> bool
+    ensures { λ o. ⌜ o ≡ aOnly r ⌝ }
+{
+    (r.op == 0) & ((r.b == 0) & (r.c == 0))
+}
+
+fn half(x: u16) -> u32
+    ensures { λ r. ⌜ (r ≡ x) × (r < 65536) ⌝ }
+{
+    x as u32
+}
+
+// The 32 bits of a value: low half b, high half c.
+fn bits_in(r: word::Rec) -> u32
+    ensures { λ o. ⌜ o ≡ r .b + 65536 * r .c ⌝ }
+{
+    half(r.b) + 65536 * half(r.c)
+}
+
+// The magnitude of the signed value that 32 bits say.
+fn size(n: u32) -> u32
+    ensures { λ r. ⌜ r ≡ natAbs (signed32 n) ⌝ }
+{
+    if n < 2147483648 {
+        n
+    } else {
+        4294967295 - n + 1
+    }
+}
+
+// 10^p.
+fn ten(p: u8) -> u32
+    requires { ⌜ p ≤ 9 ⌝ }
+    ensures { λ r. ⌜ r ≡ 10 ^ p ⌝ }
+{
+    match p {
+        0 => 1,
+        1 => 10,
+        2 => 100,
+        3 => 1000,
+        4 => 10000,
+        5 => 100000,
+        6 => 1000000,
+        7 => 10000000,
+        8 => 100000000,
+        _ => 1000000000,
+    }
+}
+
+// Whether 32 bits are a value of p digits at scale s, and p and s are in rule.
+fn fixed_rule(p: u8, s: u8, n: u32) -> bool
+    ensures { λ r. ⌜ r ≡ (digitsRule p s && digits p (signed32 n)) ⌝ }
+{
+    if cell::digits_rule(p, s) {
+        size(n) < ten(p)
+    } else {
+        false
+    }
+}
+
+// The node of a record of kind 1 to 6.
+fn const_of(r: word::Rec) -> Node
+    ensures { λ o. ⌜ o ≡ constOf r ⌝ }
+{
+    let kind = r.kind;
+    let op = r.op;
+    let zero = r.a == 0;
+    let bits = bits_in(r);
+    let value = word::to_signed(bits);
+    match kind {
+        1 => when(bare(r), Node::Const(cell::Type::Null, cell::Value::Null)),
+        2 => when(
+            (op <= 1) & op_only(r),
+            Node::Const(cell::Type::Boolean, cell::Value::Truth(op == 1)),
+        ),
+        3 => when(
+            zero & fixed_rule(op / 16, op % 16, bits),
+            Node::Const(
+                cell::Type::Fixed(op / 16, op % 16),
+                cell::Value::Fixed(op % 16, value),
+            ),
+        ),
+        4 => when(
+            zero,
+            Node::Const(cell::Type::Time(op), cell::Value::Time(value)),
+        ),
+        5 => when(
+            zero,
+            Node::Const(cell::Type::Interval(op), cell::Value::Interval(value)),
+        ),
+        _ => when(
+            a_only(r),
+            Node::Const(cell::Type::Class, cell::Value::Class(r.a)),
+        ),
+    }
+}
+
+fn inside(lo: u16, hi: u16, x: u16) -> bool
+    ensures { λ r. ⌜ r ≡ within lo hi x ⌝ }
+{
+    (lo <= x) & (x <= hi)
+}
+
+// The node of a record.
+fn node_of(r: word::Rec) -> Node
+    ensures { λ o. ⌜ o ≡ nodeOf r ⌝ }
+{
+    let kind = r.kind;
+    let op = r.op;
+    let a = r.a;
+    let b = r.b;
+    let plain = (op == 0) & (r.c == 0);
+    match kind {
+        1..=6 => const_of(r),
+        7 => when(((1 <= op) & (op <= 12)) & op_only(r), Node::Binop(op)),
+        8 => when(bare(r), Node::Not),
+        9 => when(bare(r), Node::If),
+        10 => when(inside(1, 4, a) & a_only(r), Node::Exists(a)),
+        11 => when(inside(1, 4, a) & a_only(r), Node::Single(a)),
+        12 => when((1 <= a) & a_only(r), Node::Table(a)),
+        13 => when(
+            (inside(1, 4, a) & inside(1, 32, b)) & plain,
+            Node::Select(a, b),
+        ),
+        14 => when((1 <= a) & plain, Node::Col(a, b)),
+        15 => when((1 <= a) & plain, Node::Classof(a, b)),
+        16 => when((1 <= a) & a_only(r), Node::Let(a)),
+        _ => Node::Bad,
+    }
+}
+
+// The node of record i of a view.
+pub fn node_at(view: &[u8], i: usize) -> Node
+    requires { ⌜ 8 + 8 * i + 8 ≤ length (now view) ⌝ }
+    ensures { λ r. ⌜ r ≡ nodeAt (now (view .entry)) i ⌝ }
+{
+    node_of(word::rec_at(view, i))
+}
+
+// Where a node may stand: 1 a value's place, 2 a table's, 3 the root's; 0 nowhere.
+fn slot_of(node: Node) -> u8
+    ensures { λ r. ⌜ r ≡ slotOf node ⌝ }
+{
+    match node {
+        Node::Const(_, _) => 1,
+        Node::Binop(_) => 1,
+        Node::Not => 1,
+        Node::If => 1,
+        Node::Exists(_) => 1,
+        Node::Single(_) => 1,
+        Node::Table(_) => 2,
+        Node::Select(_, _) => 3,
+        Node::Col(_, _) => 1,
+        Node::Classof(_, _) => 1,
+        Node::Let(_) => 1,
+        Node::Bad => 0,
+    }
+}
+
+// The node at a record, if it may stand in this slot.
+fn enter(view: &[u8], n: usize, slot: u8, at: usize) -> Met
+    requires { ⌜ 8 + 8 * n ≤ length (now view) ⌝ }
+    ensures { λ r. ⌜ r ≡ metOf (enter (now (view .entry)) n slot at) ⌝ }
+{
+    if n <= at {
+        return Met::Refused(4, n);
+    }
+    let node = node_at(view, at);
+    let s = slot_of(node);
+    if s == 0 {
+        return Met::Refused(3, at);
+    }
+    if s == slot {
+        Met::Found(node)
+    } else {
+        Met::Refused(4, at)
+    }
+}
+
+// A TABLE record.
+fn table(view: &[u8], n: usize, at: usize, depth: usize) -> Walk
+    requires { ⌜ 8 + 8 * n ≤ length (now view) ⌝ }
+    ensures { λ r. ⌜ r ≡ walkOf (parseTable (now (view .entry)) n depth at) ⌝ }
+{
+    match enter(view, n, 2, at) {
+        Met::Refused(k, p) => Walk::Refused(k, p),
+        Met::Found(_) => {
+            if depth == 0 {
+                Walk::Refused(5, at)
+            } else {
+                Walk::Next(at + 1)
+            }
+        }
+    }
+}
+
+// So many TABLE records.
+fn tables(view: &[u8], n: usize, at: usize, count: u16, depth: usize) -> Walk
+    requires { ⌜ 8 + 8 * n ≤ length (now view) ⌝ }
+    ensures { λ r. ⌜ r ≡ walkOf (many (parseTable (now (view .entry)) n depth) count at) ⌝ }
+{
+    let mut m = at;
+    let mut i: u16 = 0;
+    while i < count {
+        match table(view, n, m, depth) {
+            Walk::Next(k) => {
+                m = k;
+            }
+            Walk::Refused(k, p) => {
+                return Walk::Refused(k, p);
+            }
+        }
+        i += 1;
+    }
+    Walk::Next(m)
+}
+
+// A value, with depth levels left.
+fn value(view: &[u8], n: usize, at: usize, depth: usize) -> Walk
+    requires { ⌜ 8 + 8 * n ≤ length (now view) ⌝ }
+    ensures { λ r. ⌜ r ≡ walkOf (parseValue (now (view .entry)) n depth at) ⌝ }
+{
+    match enter(view, n, 1, at) {
+        Met::Refused(k, p) => Walk::Refused(k, p),
+        Met::Found(node) => {
+            if depth == 0 {
+                return Walk::Refused(5, at);
+            }
+            let next = at + 1;
+            let down = depth - 1;
+            match node {
+                Node::Const(_, _) => Walk::Next(next),
+                Node::Binop(_) => values(view, n, next, 2, down),
+                Node::Not => values(view, n, next, 1, down),
+                Node::If => values(view, n, next, 3, down),
+                Node::Exists(tables) => block(view, n, next, tables, 0, down),
+                Node::Single(tables) => block(view, n, next, tables, 1, down),
+                Node::Table(_) => Walk::Refused(4, at),
+                Node::Select(_, _) => Walk::Refused(4, at),
+                Node::Col(_, _) => Walk::Next(next),
+                Node::Classof(_, _) => Walk::Next(next),
+                Node::Let(_) => values(view, n, next, 2, down),
+                Node::Bad => Walk::Refused(3, at),
+            }
+        }
+    }
+}
+
+// So many values.
+fn values(view: &[u8], n: usize, at: usize, count: u16, depth: usize) -> Walk
+    requires { ⌜ 8 + 8 * n ≤ length (now view) ⌝ }
+    ensures { λ r. ⌜ r ≡ walkOf (many (parseValue (now (view .entry)) n depth) count at) ⌝ }
+{
+    let mut m = at;
+    let mut i: u16 = 0;
+    while i < count {
+        match value(view, n, m, depth) {
+            Walk::Next(k) => {
+                m = k;
+            }
+            Walk::Refused(k, p) => {
+                return Walk::Refused(k, p);
+            }
+        }
+        i += 1;
+    }
+    Walk::Next(m)
+}
+
+// A block: its tables, its where, its values.
+fn block(view: &[u8], n: usize, at: usize, count: u16, more: u16, depth: usize) -> Walk
+    requires { ⌜ 8 + 8 * n ≤ length (now view) ⌝ }
+    ensures { λ r. ⌜ r ≡ walkOf (parseBlock (now (view .entry)) n depth (parseValue (now (view .entry)) n depth) count more at) ⌝ }
+{
+    match tables(view, n, at, count, depth) {
+        Walk::Refused(k, p) => Walk::Refused(k, p),
+        Walk::Next(m) => match value(view, n, m, depth) {
+            Walk::Refused(k, p) => Walk::Refused(k, p),
+            Walk::Next(l) => values(view, n, l, more, depth),
+        },
+    }
+}
+
+// The whole tree of n records.
+fn root(view: &[u8], n: usize) -> Walk
+    requires { ⌜ 8 + 8 * n ≤ length (now view) ⌝ }
+    ensures { λ r. ⌜ r ≡ walkOf (parseRoot (now (view .entry)) n) ⌝ }
+{
+    match enter(view, n, 3, 0) {
+        Met::Refused(k, p) => Walk::Refused(k, p),
+        Met::Found(node) => match node {
+            Node::Select(tables, values) => match block(view, n, 1, tables, values, 15) {
+                Walk::Refused(k, p) => Walk::Refused(k, p),
+                Walk::Next(end) => {
+                    if end == n {
+                        Walk::Next(end)
+                    } else {
+                        Walk::Refused(4, end)
+                    }
+                }
+            },
+            Node::Const(_, _) => Walk::Refused(4, 0),
+            Node::Binop(_) => Walk::Refused(4, 0),
+            Node::Not => Walk::Refused(4, 0),
+            Node::If => Walk::Refused(4, 0),
+            Node::Exists(_) => Walk::Refused(4, 0),
+            Node::Single(_) => Walk::Refused(4, 0),
+            Node::Table(_) => Walk::Refused(4, 0),
+            Node::Col(_, _) => Walk::Refused(4, 0),
+            Node::Classof(_, _) => Walk::Refused(4, 0),
+            Node::Let(_) => Walk::Refused(4, 0),
+            Node::Bad => Walk::Refused(4, 0),
+        },
+    }
+}
+
+// The check of a view: its header, its count and length, its tree.
+pub fn check(view: &[u8]) -> Verdict
+    ensures { λ r. ⌜ r ≡ checkOf (now (view .entry)) ⌝ }
+{
+    if word::opens(view, b"DRQ\0") {
+        let n = word::u16_at(view, 6) as usize;
+        if ((1 <= n) & (n <= 1024)) & (view.len() == 8 + 8 * n) {
+            match root(view, n) {
+                Walk::Next(m) => Verdict::Records(m),
+                Walk::Refused(k, p) => Verdict::Refused(k, p),
+            }
+        } else {
+            Verdict::Refused(2, 0)
+        }
+    } else {
+        Verdict::Refused(1, 0)
+    }
+}
