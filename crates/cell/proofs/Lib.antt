@@ -4,3 +4,6 @@ pub mod Words
 pub mod Typing
 pub mod Applying
 pub mod Sound
+pub mod Signed
+pub mod Tens
+pub mod Deciding

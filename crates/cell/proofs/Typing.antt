@@ -10,6 +10,7 @@ use Rattle.cell.specs.Res.{Res, stuck, done}
 use Rattle.cell.specs.Types.{digitsRule, typeRule, typeBy, inRule, wordOf, kindOf, digitsOf, scaleOf, formatOf, widerOf, both, if, sumType, productType, logicType, orderType, equalType, binopType, sameType, limbType}
 use Rattle.cell.specs.declared.Type.{«Type» as Ty}
 use Rattle.cell.specs.declared.Type.the-variants.{Null, Boolean, Fixed, Time, Interval, Class}
+use Rattle.cell.proofs.Ranges.{both-are}
 use Rattle.cell.proofs.Judging.{rule-sum, rule-product, rule-logic, rule-below, rule-equal, rule-above, rule-none, rule-past}
 use Rattle.cell.proofs.Words.{by-boolean, by-fixed, by-time, by-interval, by-class, rule-boolean, rule-fixed, rule-class, rule-low, rule-high}
 
@@ -215,14 +216,10 @@ pub data EqualTy : Ty → Ty → Type 0 where
   equal-interval : {f g : ℕ} → EqualTy (Interval f) (Interval g)
   equal-class : EqualTy Class Class
 
--- a test that holds, of the two that it is made of
-kinds : (i j k l : ℕ) → (eqb i k && eqb j l) ≡ true → (i ≡ k) × (j ≡ l)
-kinds i j k l e = let (a, b) = and-eq-true-iff (eqb i k) (eqb j l) .0 e in (eqb-true i k a, eqb-true j l b)
-
 wider-is : (s t : Ty) → both 2 s t ≡ true →
     (s ≡ Fixed (digitsOf s) (scaleOf s)) × (t ≡ Fixed (digitsOf t) (scaleOf t)) × (widerOf s t ≡ Fixed (max (digitsOf s) (digitsOf t)) (max (scaleOf s) (scaleOf t)))
 unfolding widerOf
-wider-is s t e = let (a, b) = kinds (kindOf s) (kindOf t) 2 2 e in (fixed-kind s a, fixed-kind t b, refl)
+wider-is s t e = let (a, b) = both-are (kindOf s) (kindOf t) 2 2 e in (fixed-kind s a, fixed-kind t b, refl)
 
 -- a result that is given only where a test holds
 if-done : (b : Bool) (t r : Ty) → if b t ≡ done r → (b ≡ true) × (t ≡ r)
@@ -239,13 +236,13 @@ sum-ty s t r e = fixed (both 2 s t) refl e
     time : (b : Bool) → (eqb (kindOf s) 3 && eqb (kindOf t) 4) ≡ b →
         cond b (done s) (if (both 4 s t && eqb (formatOf s) (formatOf t)) s) ≡ done r → SumTy s t r
     time true k h =
-        let (a, b) = kinds (kindOf s) (kindOf t) 3 4 k in
+        let (a, b) = both-are (kindOf s) (kindOf t) 3 4 k in
         let l : s ≡ r = cc in
         rw (← l, time-kind s a, interval-kind t b) sum-time
     time false k h =
         let (a, l) = if-done (both 4 s t && eqb (formatOf s) (formatOf t)) s r h in
         let (b, f) = and-eq-true-iff (both 4 s t) (eqb (formatOf s) (formatOf t)) .0 a in
-        let (x, y) = kinds (kindOf s) (kindOf t) 4 4 b in
+        let (x, y) = both-are (kindOf s) (kindOf t) 4 4 b in
         sum-by (formatOf s) (formatOf t) (interval-kind s x) (interval-kind t y) (eqb-true (formatOf s) (formatOf t) f) l
 
     fixed : (b : Bool) → both 2 s t ≡ b →
@@ -269,14 +266,14 @@ product-ty s t r e = fixed (both 2 s t) refl e
         rw (← l, w, a, b) product-fixed
     fixed false k h =
         let (a, l) = if-done (eqb (kindOf s) 4 && eqb (kindOf t) 2) s r h in
-        let (x, y) = kinds (kindOf s) (kindOf t) 4 2 a in
+        let (x, y) = both-are (kindOf s) (kindOf t) 4 2 a in
         rw (← l, interval-kind s x, fixed-kind t y) product-interval
 
 pub logic-ty : (s t r : Ty) → logicType s t ≡ done r → LogicTy s t × (Boolean ≡ r)
 unfolding logicType
 logic-ty s t r e =
     let (a, l) = if-done (both 1 s t) Boolean r e in
-    let (x, y) = kinds (kindOf s) (kindOf t) 1 1 a in
+    let (x, y) = both-are (kindOf s) (kindOf t) 1 1 a in
     (rw (boolean-kind s x, boolean-kind t y) logic-boolean, l)
 
 order-by : (s t : Ty) (k : ℕ) → kindOf s ≡ k → kindOf t ≡ k → 2 ≤ k → k ≤ 4 → OrderTy s t

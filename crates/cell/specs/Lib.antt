@@ -2,3 +2,4 @@ pub mod Res
 pub mod Types
 pub mod Values
 pub mod Apply
+pub mod Numbers

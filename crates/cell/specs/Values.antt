@@ -13,6 +13,8 @@ use Rattle.cell.specs.declared.Value.{Value}
 use Rattle.cell.specs.declared.Value.the-variants.{Null, Truth, Fixed, Time, Interval, Class}
 use Rattle.cell.specs.declared.Outcome.{Outcome}
 use Rattle.cell.specs.declared.Outcome.the-variants as O
+use Rattle.cell.specs.declared.Test.{Test}
+use Rattle.cell.specs.declared.Test.the-variants as S
 
 -- |m| is below 10^p
 abbrev pub digits : ℕ → ℤ → Bool
@@ -89,7 +91,44 @@ kindV (Time m) = 3
 kindV (Interval m) = 4
 kindV (Class c) = 5
 
--- the code's answer
+-- the scale of a fixed value, the number of a fixed one, a time or an interval, the truth of a boolean, the word of a class; else 0 and false
+unfoldable pub scaleV : Value → ℕ
+scaleV Null = 0
+scaleV (Truth b) = 0
+scaleV (Fixed s m) = s
+scaleV (Time m) = 0
+scaleV (Interval m) = 0
+scaleV (Class c) = 0
+
+unfoldable pub numberV : Value → ℤ
+numberV Null = pos 0
+numberV (Truth b) = pos 0
+numberV (Fixed s m) = m
+numberV (Time m) = m
+numberV (Interval m) = m
+numberV (Class c) = pos 0
+
+unfoldable pub truthV : Value → Bool
+truthV Null = false
+truthV (Truth b) = b
+truthV (Fixed s m) = false
+truthV (Time m) = false
+truthV (Interval m) = false
+truthV (Class c) = false
+
+unfoldable pub classV : Value → ℕ
+classV Null = 0
+classV (Truth b) = 0
+classV (Fixed s m) = 0
+classV (Time m) = 0
+classV (Interval m) = 0
+classV (Class c) = c
+
+-- the code's answers
+unfoldable pub testOf : Res Bool → Test
+testOf stuck = S.Stuck
+testOf (done b) = S.Is b
+
 unfoldable pub outcomeOf : Res Value → Outcome
 outcomeOf stuck = O.Stuck
 outcomeOf (done v) = O.Is v

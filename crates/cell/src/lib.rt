@@ -1,7 +1,15 @@
 // Types and values of cells, the type rules, and the operators on values.
-// Every function is total; an operand of a wrong kind gives the outcome Stuck.
+// Every public function is total; an operand of a wrong kind gives the outcome Stuck.
+mod numbers;
+mod operators;
 mod types;
 
+pub use operators::apply;
+pub use operators::as_cond;
+pub use operators::convert;
+pub use operators::is_null;
+pub use operators::negate;
+pub use operators::settled;
 pub use types::binop_type;
 pub use types::digits_of;
 pub use types::digits_rule;
@@ -41,6 +49,12 @@ pub enum Value {
 pub enum Outcome {
     Stuck,
     Is(Value),
+}
+
+// The outcome of a condition.
+pub enum Test {
+    Stuck,
+    Is(bool),
 }
 
 pub struct Cell {

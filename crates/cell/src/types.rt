@@ -1,10 +1,11 @@
 // Types by the catalogue's words, and the type rules of operators and of IF.
 // Every public function is total.
 ghost use mathlib.Core.Path.{_≡_};
-ghost use Prim.Native.Nat.{_/_, _%_, _≤_, max};
+ghost use Prim.Native.Nat.{_/_, _%_, _≤_};
 ghost use Rattle.cell.specs.Types.{binopType, digitsOf, digitsRule, equalType, formatOf, judgedOf, kindOf, limbType, logicType, orderType, productType, sameType, scaleOf, sumType, typeBy, typeRule, widerOf, wordOf};
 use crate::Judged;
 use crate::Type;
+use crate::numbers::larger;
 
 // Whether p digits at scale s are in rule.
 pub fn digits_rule(p: u8, s: u8) -> bool
@@ -116,12 +117,6 @@ pub fn format_of(t: Type) -> u8
         Type::Interval(f) => f,
         Type::Class => 0,
     }
-}
-
-fn larger(a: u8, b: u8) -> u8
-    ensures { λ r. ⌜ r ≡ max a b ⌝ }
-{
-    if a < b { b } else { a }
 }
 
 // Two fixed types give the larger p and the larger s.

@@ -1,8 +1,9 @@
--- The laws of an outcome in one word: Laws has what callers cite, Words the word's parts, Returns what the functions return.
+-- The laws of an outcome in one word. For callers: Laws, Nodes (a tree's nodes over words), Constants. For the functions: Words, Returns, Operating, Stored.
 -- Assumes nothing.
 pub mod Laws
+pub mod Nodes
+pub mod Constants
 pub mod Words
 pub mod Returns
-pub mod Stored
 pub mod Operating
-pub mod Constants
+pub mod Stored

@@ -1,9 +1,9 @@
 -- What a table has for a name: one law for each place of the code.
 -- Assumes nothing.
-use Prim.Native.Nat.{ℕ, zero, suc, _+_, _-_, _*_, _<_, _≤_}
-use mathlib.Core.Path.{_≡_, refl, sym, ap, _∙_}
-use mathlib.Core.Bool.{Bool, true, false, cond, _&&_, _||_}
-use mathlib.Core.List.{List, [], _∷_, _++_}
+use Prim.Native.Nat.{ℕ, _+_, _-_, _<_, _≤_}
+use mathlib.Core.Path.{_≡_, refl, sym, _∙_}
+use mathlib.Core.Bool.{Bool, true, false, cond, _||_}
+use mathlib.Core.List.{List, [], _∷_}
 use native.Mathlib.Omega.{arith}
 use borrow.Author.Needs.{needs}
 use borrow.Author.Tests.{eq-eqb, ne-eqb}
@@ -14,7 +14,8 @@ use Rattle.class.specs.declared.Info.{Info}
 use Rattle.class.specs.declared.Info.the-variants.{Fixed}
 use Rattle.cell.specs.declared.Type.{«Type» as Ty}
 use Rattle.catalogue.specs.Tables.{Table, Column, columnAt, colsFrom, tableAt}
-use Rattle.scope.specs.Scopes.{Hit, column, onlyOf, inCols, inTable}
+use Rattle.catalogue.proofs.Listed.{cols-next, cols-stop, cols-end}
+use Rattle.scope.specs.Scopes.{column, onlyOf, inCols, inTable}
 use Rattle.scope.specs.Match.{foundIn, plus}
 use Rattle.scope.specs.declared.Found.{Found}
 use Rattle.scope.specs.declared.Found.the-variants as F
@@ -40,15 +41,6 @@ module _ (c : List ℕ) (n t name a b : ℕ) where
   unfolding colsLeft tableAt
   cols-begin h = refl
 
-  col-next : (i : ℕ) → i < n → kindAt c i ≡ 2 → colsFrom c (n - i) i ≡ columnAt c i ∷ colsFrom c (n - (i + 1)) (i + 1)
-  unfolding colsFrom
-  col-next i h e = let f : n - i ≡ suc (n - (i + 1)) = omega arith in rw (f, e)
-
-  col-stop : (k i : ℕ) → (kindAt c i ≡ 2 → ⊥) → colsFrom c k i ≡ []
-  unfolding colsFrom
-  col-stop zero i e = refl
-  col-stop (suc k) i e = rw (ne-eqb _ _ e)
-
   one-col : (k i : ℕ) (row : Info) (x : Bool) → row ≡ infoBy (opAt c t) (bAt c t)
       → foundIn (Fixed 0) (onlyOf (cond x (column a b k (tableAt c n t) (columnAt c i) ∷ []) [])) ≡ cond x (F.Column a b k (columnAt c i .ty) (columnAt c i .info) row) F.None
   unfolding foundIn onlyOf tableAt
@@ -60,15 +52,15 @@ module _ (c : List ℕ) (n t name a b : ℕ) where
         → s ≡ plus r (cond (eqb (aAt c i) name) (F.Column a b k (columnAt c i .ty) (columnAt c i .info) row) F.None) → X ≡ plus s (colsLeft (k + 1) (i + 1))
     unfolding colsLeft inCols
     cols-again row s w h y f g j =
-        e ∙ rw (col-next i h (sym y ∙ f), hit-append, one-col k i row (eqb (columnAt c i .cname) name) g) (unfold columnAt in rw (← plus-assoc, ← j))
+        e ∙ rw (cols-next c n i h (sym y ∙ f), hit-append, one-col k i row (eqb (columnAt c i .cname) name) g) (unfold columnAt in rw (← plus-assoc, ← j))
 
     pub cols-out : (w : ℕ) → w ≡ kindAt c i → (w ≡ 2 → ⊥) → r ≡ X
     unfolding colsLeft inCols foundIn onlyOf
-    cols-out w y f = sym (e ∙ rw (col-stop (n - i) i (λ z. f (y ∙ z))) (plus-none r))
+    cols-out w y f = sym (e ∙ rw (cols-stop c (n - i) i (λ z. f (y ∙ z))) (plus-none r))
 
     pub cols-done : n ≤ i → r ≡ X
-    unfolding colsLeft inCols foundIn onlyOf colsFrom
-    cols-done f = let h : n - i ≡ 0 = omega arith in sym (e ∙ rw h (plus-none r))
+    unfolding colsLeft inCols foundIn onlyOf
+    cols-done f = sym (e ∙ rw (cols-end c n i f) (plus-none r))
 
   module _ (q : ℕ) (h r : Found) where
     pub table-out : n ≤ t → r ≡ plus h F.None → r ≡ plus h (foundIn (Fixed 0) (onlyOf (inTable name q a b (tableAt c n t))))

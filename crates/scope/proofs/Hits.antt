@@ -1,7 +1,7 @@
 -- What the only match of a list of matches is, put together from parts.
 -- Assumes nothing.
-use Prim.Native.Nat.{ℕ, zero, suc, _+_}
-use mathlib.Core.Path.{_≡_, refl, sym, ap, _∙_}
+use Prim.Native.Nat.{ℕ, _+_}
+use mathlib.Core.Path.{_≡_, refl, sym, _∙_}
 use mathlib.Core.Bool.{Bool, true, false, cond, _&&_, _||_}
 use mathlib.Core.List.{List, [], _∷_, _++_}
 use borrow.Author.Needs.{needs}
@@ -11,7 +11,7 @@ use Rattle.class.specs.declared.Info.{Info}
 use Rattle.class.specs.declared.Info.the-variants.{Fixed}
 use Rattle.cell.specs.declared.Type.{«Type» as Ty}
 use Rattle.catalogue.specs.Tables.{Table, Column}
-use Rattle.scope.specs.Scopes.{Open, block, local, Hit, column, bound, Only, none, one, more, onlyOf, inCols, inTable, inTabs, inScope}
+use Rattle.scope.specs.Scopes.{Open, block, local, Hit, column, bound, onlyOf, inCols, inTable, inTabs, inScope}
 use Rattle.scope.specs.Table.{foundOf}
 use Rattle.scope.specs.Match.{foundIn, isFound, plus}
 use Rattle.scope.specs.declared.Found.{Found}

@@ -1,19 +1,19 @@
 -- What an entry has for a name, and the search from the innermost scope outward: one law for each place of the code.
 -- Assumes nothing.
-use Prim.Native.Nat.{ℕ, zero, suc, _+_, _-_, _*_, _<_, _≤_, min}
+use Prim.Native.Nat.{ℕ, zero, suc, _+_, _-_, _<_, _≤_, min}
 use mathlib.Core.Path.{_≡_, refl, sym, ap, _∙_}
-use mathlib.Core.Bool.{Bool, true, false, cond, _&&_}
-use mathlib.Core.List.{List, [], _∷_, _++_}
+use mathlib.Core.Bool.{Bool, true, false, _&&_}
+use mathlib.Core.List.{List, [], _∷_}
 use native.Mathlib.Omega.{arith}
 use borrow.Author.Needs.{needs}
-use borrow.Author.Tests.{eq-eqb, ne-eqb}
+use borrow.Author.Tests.{ne-eqb}
 use lib.ListN.{getD, List·getD-map}
 use lib.Dec.{eqb}
 use Rattle.class.specs.declared.Info.{Info}
 use Rattle.class.specs.declared.Info.the-variants.{Fixed}
 use Rattle.cell.specs.declared.Type.the-variants as T
-use Rattle.catalogue.specs.Tables.{Table, tableAt}
-use Rattle.scope.specs.Scopes.{Open, Hit, column, bound, Only, none, one, more, onlyOf, inTable, inTabs, inScope, nearest, find}
+use Rattle.catalogue.specs.Tables.{tableAt}
+use Rattle.scope.specs.Scopes.{Hit, column, bound, Only, none, one, more, onlyOf, inTable, inTabs, inScope, nearest, find}
 use Rattle.scope.specs.Table.{tabsAt, openOf, blank, scopesOf, infosOf, foundOf}
 use Rattle.scope.specs.Match.{foundIn, isFound, plus}
 use Rattle.scope.specs.declared.Scope.{Scope}

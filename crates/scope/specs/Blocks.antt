@@ -24,6 +24,11 @@ unfoldable pub tablesNamed : List Table → List TabName → Tabs
 tablesNamed cat [] = all []
 tablesNamed cat (x ∷ xs) = foundAt (x .at) (tableNamed (x .name) cat) (tablesNamed cat xs)
 
+-- the tables, where all are in the catalogue
+unfoldable pub refsOf : Tabs → List TabRef
+refsOf (all ts) = ts
+refsOf (missing p) = []
+
 -- the scope that a block opens
 abbrev pub opened : List TabRef → Open
 opened ts = block (map (λ t. t .table) ts)

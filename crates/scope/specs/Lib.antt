@@ -1,6 +1,7 @@
--- The definitions of names: Scopes has the rule, Table what an entry says, Match parts of an answer, Blocks a block's tables.
+-- The definitions of names: Scopes has the rule, Table what an entry says, Match parts of an answer, Blocks a block's tables, Entry an entry made.
 -- Assumes nothing.
 pub mod Scopes
 pub mod Table
 pub mod Match
 pub mod Blocks
+pub mod Entry

@@ -1,13 +1,12 @@
 -- The table of open scopes: what its entries say. The innermost scope is the last entry; over a catalogue c of n records.
 -- Assumes nothing.
 use Prim.Native.Nat.{ℕ, zero, suc, _+_, min}
-use mathlib.Core.Bool.{Bool, true, false, cond}
+use mathlib.Core.Bool.{cond}
 use mathlib.Core.List.{List, [], _∷_}
-use lib.ListN.{getD, set}
+use lib.ListN.{getD}
 use lib.Dec.{eqb}
 use Rattle.class.specs.declared.Info.{Info}
 use Rattle.class.specs.declared.Info.the-variants.{Fixed}
-use Rattle.cell.specs.declared.Type.{«Type» as Ty}
 use Rattle.cell.specs.declared.Type.the-variants as T
 use Rattle.catalogue.specs.Tables.{Table, tableAt}
 use Rattle.scope.specs.Scopes.{Open, block, local, Hit, column, bound, Only, none, one, more}

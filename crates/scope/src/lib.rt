@@ -1,13 +1,20 @@
 // The open scopes in a small table, one entry for each block and each LET body: push an entry, and find a name.
 // The definitions are in specs/: Scopes has the rule of names, Table what an entry says, Blocks a block's tables.
+mod entry;
+
+pub use entry::block_class;
+pub use entry::local_scope;
+pub use entry::open_block;
+pub use entry::row_info;
+pub use entry::table_class_at;
+pub use entry::table_number;
 ghost use mathlib.Core.Path.{_≡_};
-ghost use mathlib.Core.Bool.{Bool, true, false, cond};
-ghost use Prim.Native.Nat.{ℕ, _+_, _*_, _≤_, _<_, min};
-ghost use lib.ListN.{length, getD, set};
+ghost use mathlib.Core.Bool.{true, false, cond};
+ghost use Prim.Native.Nat.{_+_, _*_, _≤_, _<_, min};
+ghost use lib.ListN.{length, set};
 ghost use lib.Dec.{eqb};
-ghost use Rattle.class.specs.Info.{infoBy};
 ghost use Rattle.class.specs.declared.Info.the-variants.{Fixed};
-ghost use Rattle.word.specs.Record.{opAt, aAt, bAt};
+ghost use Rattle.word.specs.Record.{aAt};
 ghost use Rattle.catalogue.specs.Tables.{columnAt, tableAt};
 ghost use Rattle.scope.specs.Scopes.{onlyOf, inCols, inTable, inTabs, inScope, find};
 ghost use Rattle.scope.specs.Table.{tabsAt, openOf, scopesOf, infosOf, foundOf};
@@ -30,6 +37,13 @@ pub enum Found {
     Local(u16, cell::Type, class::Info),
     None,
     Ambiguous,
+}
+
+// A block opened: its entry, where its tables are all in the catalogue; else the place of the first TABLE record whose table isn't.
+pub struct Opened {
+    pub fine: bool,
+    pub place: usize,
+    pub scope: Scope,
 }
 
 fn index(x: u16) -> usize

@@ -1,20 +1,20 @@
 -- Laws of a cell read by its place: one for each kind of type, and for null.
 -- Assumes nothing.
 use Prim.Native.Nat.{ℕ, suc, _+_, _-_, _%_, _^_, _<_, _≤_}
-use mathlib.Core.Path.{_≡_, refl, sym, ap, _∙_}
+use mathlib.Core.Path.{_≡_, refl, ap, _∙_}
 use mathlib.Core.Bool.{Bool, true, false, cond, _||_, or-false}
 use mathlib.Core.List.{List}
 use native.Mathlib.Omega.{arith}
 use borrow.Author.Needs.{needs}
-use borrow.Author.Tests.{eqb-true, eqb-false, eq-eqb, ne-eqb, ltb-true, ltb-false}
+use borrow.Author.Tests.{eqb-true, eqb-false, ne-eqb, ltb-true, ltb-false}
 use lib.ListN.{getD}
 use lib.Dec.{eqb, ltb}
 use lib.IntN.{ℤ, pos, negsuc, natAbs}
 use lib.Signed.{mag}
 use mir.Syntax.{w32}
 use mir.Val.{toZ, ofZ}
-use Rattle.word.specs.Bytes.{u16At, u32At, signed32, bits32, i32At}
-use Rattle.word.proofs.Laws.{signed-low, signed-high, bits-signed, back32}
+use Rattle.word.specs.Bytes.{u16At, u32At, signed32, i32At}
+use Rattle.word.proofs.Laws.{bits-signed, back32}
 use Rattle.cell.specs.declared.Type.{«Type» as Ty}
 use Rattle.cell.specs.declared.Type.the-variants as T
 use Rattle.cell.specs.declared.Value.{Value}

@@ -1,7 +1,7 @@
 -- What "no fault" says of a store: every row class and every cell keeps its rule.
 -- Assumes nothing.
-use Prim.Native.Nat.{ℕ, zero, suc, _+_, _-_, _*_, _<_, _≤_}
-use mathlib.Core.Path.{_≡_, refl, sym, ap, _∙_}
+use Prim.Native.Nat.{ℕ, zero, suc, _+_, _-_, _*_, _<_}
+use mathlib.Core.Path.{_≡_, refl}
 use mathlib.Core.Bool.{Bool, true, false, cond}
 use mathlib.Core.List.{List}
 use native.Mathlib.Omega.{arith}
@@ -10,7 +10,7 @@ use borrow.Author.Tests.{eqb-true, eqb-false, eq-eqb}
 use lib.Dec.{eqb}
 use Rattle.word.specs.Bytes.{u16At}
 use Rattle.word.specs.Record.{kindAt}
-use Rattle.store.specs.Layout.{classRule, cellRule, cellPlace, columnsFrom, rowSize, placeAfter, placeOf, first, cellsFault, rowFault, rowsFault, tableFault, faultFrom}
+use Rattle.store.specs.Layout.{classRule, cellRule, cellPlace, columnsFrom, rowSize, placeOf, first, cellsFault, rowFault, rowsFault, tableFault, faultFrom}
 
 pub first-none : (a b : ℕ) → first a b ≡ 0 → (a ≡ 0) × (b ≡ 0)
 unfolding first

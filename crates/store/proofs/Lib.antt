@@ -8,3 +8,4 @@ pub mod Lists
 pub mod Stores
 pub mod Cells
 pub mod Spanning
+pub mod Samples

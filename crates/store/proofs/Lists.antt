@@ -1,7 +1,7 @@
 -- The lists of a store by their elements: row r, cell j, and how many there are.
 -- Assumes nothing.
 use Prim.Native.Nat.{ℕ, zero, suc, _+_, _-_, _*_, _/_, _%_, _<_, _≤_}
-use mathlib.Core.Path.{_≡_, refl, sym, ap, _∙_}
+use mathlib.Core.Path.{_≡_, refl, ap}
 use mathlib.Core.Bool.{Bool, true, false, cond}
 use mathlib.Core.List.{List, [], _∷_}
 use native.Mathlib.Omega.{arith}
@@ -9,12 +9,11 @@ use native.Mathlib.Nat.{suc-mul}
 use lib.ListN.{length}
 use lib.Dec.{eqb}
 use Rattle.word.specs.Record.{kindAt, cAt}
-use Rattle.cell.specs.Res.{Res, stuck, done, nth}
+use Rattle.cell.specs.Res.{stuck, done, nth}
 use Rattle.cell.specs.Types.{typeBy}
-use Rattle.cell.specs.declared.Cell.{Cell}
-use Rattle.catalogue.specs.Tables.{Column, columnAt, colsFrom}
+use Rattle.catalogue.specs.Tables.{columnAt, colsFrom}
 use Rattle.store.specs.Layout.{cellPlace, columnsFrom}
-use Rattle.store.specs.Rows.{Row, All, All2, cellAt, cellsFrom, rowAt, rowsFrom}
+use Rattle.store.specs.Rows.{All, All2, cellAt, cellsFrom, rowAt, rowsFrom}
 
 -- past the end there is no element
 pub nth-past : {A : Type 0} (xs : List A) (j : ℕ) → length xs ≤ j → nth xs j ≡ stuck
@@ -85,6 +84,12 @@ module _ (c s : List ℕ) where
           → length (cond b (cellAt s (typeBy (cAt c i / 256) (cAt c i % 256)) (cellPlace at j) ∷ cellsFrom c s k (i + 1) at (j + 1)) []) ≡ cond b (1 + columnsFrom c k (i + 1)) 0
       go true e = omega (arith, e)
       go false e = refl
+
+-- cell m of the row at a place, of table record i: that of column record i + 1 + m
+pub row-cell : (c : List ℕ) (n : ℕ) (s : List ℕ) (i at m : ℕ) → m < columnsFrom c (n - (i + 1)) (i + 1)
+    → nth (rowAt c n s i at .cells) m ≡ done (cellAt s (columnAt c (i + 1 + m) .ty) (cellPlace at m))
+unfolding rowAt columnAt
+row-cell c n s i at m h = let z : 0 + m ≡ m = omega arith in rw z at (nth-cells c s (n - (i + 1)) (i + 1) at 0 m h)
 
 -- column m
 pub nth-cols : (c : List ℕ) (k i m : ℕ) → m < columnsFrom c k i → nth (colsFrom c k i) m ≡ done (columnAt c (i + m))

@@ -97,3 +97,7 @@ files-elim c s {G} e k = go (fault.checkOf c) refl e
     go : (v : catalogue.Verdict) → fault.checkOf c ≡ v → filesBy v c s ≡ Fine → G
     go (variants.Tables t) f w = k t f w
     go (variants.Refused number place) f w = absurd (let h : _≡_ {A = ℕ} 0 1 = cc in omega arith)
+
+-- what an accepted store's end is, from the check's answer
+pub taken-end : (c : List ℕ) (n t : ℕ) (s : List ℕ) (v : Verdict) → v ≡ checkOf c n t s → v ≡ Fine → endFrom c n s n 0 8 ≤ 65528
+taken-end c n t s v e f = let a = accepted c n t s (sym e ∙ f) in omega (arith, a .ends, a .short-enough)

@@ -17,19 +17,19 @@ use Rattle.word.specs.Header.{countAt}
 use Rattle.word.specs.Buffer.{put, Wrote}
 use Rattle.word.specs.Record.{kindAt}
 use Rattle.word.proofs.Writing.{put-nil, put-at, Todo, todo-all, todo-same, todo-less, todo-none, kept}
-use Rattle.cell.specs.Res.{Res, stuck, done, nth}
+use Rattle.cell.specs.Res.{done, nth}
 use Rattle.catalogue.specs.Fault as fault
 use Rattle.catalogue.specs.Starts.{startsFrom, startsOf}
-use Rattle.catalogue.specs.Tables.{Table, tableAt, tablesFrom, catalogueOf}
+use Rattle.catalogue.specs.Tables.{tableAt, tablesFrom, catalogueOf}
 use Rattle.catalogue.specs.declared.Verdict.the-variants as variants
 use Rattle.catalogue.proofs.Meaning as catalogue
 use Rattle.catalogue.proofs.Places.{starts-below, starts-kind}
-use Rattle.store.specs.Layout.{cellPlace, columnsFrom, rowSize, placeAfter, placeOf, endFrom, checkOf}
-use Rattle.store.specs.Rows.{Row, rowsFrom, tableRows, tablesRows, storeOf}
+use Rattle.store.specs.Layout.{classRule, cellRule, cellPlace, columnsFrom, rowSize, rowFault, placeAfter, placeOf, endFrom, checkOf}
+use Rattle.store.specs.Rows.{rowsFrom, tableRows, tablesRows, storeOf}
 use Rattle.store.specs.Spans.{spansOver, spansArray, SpanAt}
-use Rattle.store.specs.declared.Verdict.{Verdict}
 use Rattle.store.specs.declared.Verdict.the-variants.{Fine}
 use Rattle.store.proofs.Meaning.{place-below, table-inside, accepted}
+use Rattle.store.proofs.Faultless.{table-clean, row-clean, class-clean, cell-clean}
 
 -- ---- the array, as the code fills it
 
@@ -218,3 +218,28 @@ module _ (c : List ℕ) (n : ℕ) (s : List ℕ) (i j : ℕ) (ss : List ℕ) (a 
   cell-inside m l =
       let z : getD ss (3 * j + 2) 0 ≡ 0 + 2 + 8 * columnsFrom c (n - (i + 1)) (i + 1) = a .size in
       omega (arith, row-inside, z, l)
+
+-- ---- the classes of a row and its cells keep their rules
+
+module _ (c s : List ℕ) (t : ℕ) (e : fault.checkOf c ≡ variants.Tables t) (f : checkOf c (countAt c) t s ≡ Fine) (j : ℕ) (h : j < t) (r : ℕ) (l : r < getD (spansArray c (countAt c) s) (3 * j + 1) 0) where
+  row-of : rowFault c (countAt c) s (getD (startsOf c) j 0) (getD (spansArray c (countAt c) s) (3 * j) 0 + r * getD (spansArray c (countAt c) s) (3 * j + 2) 0) ≡ 0
+  row-of =
+      let a = span-at c s t e f j h in
+      rw (a .first, a .size)
+      (row-clean c (countAt c) s (getD (startsOf c) j 0) (u16At s (placeOf c (countAt c) s (getD (startsOf c) j 0))) (placeOf c (countAt c) s (getD (startsOf c) j 0) + 2) (rowSize c (countAt c) (getD (startsOf c) j 0))
+      (table-clean c (countAt c) s (accepted c (countAt c) t s f .no-fault) (getD (startsOf c) j 0) (a .below) (a .table))
+      r (rw (a .rows) at l))
+
+  row-some : 0 < getD (spansArray c (countAt c) s) (3 * j) 0 + r * getD (spansArray c (countAt c) s) (3 * j + 2) 0
+  row-some = let a = span-at c s t e f j h in omega (arith, a .first)
+
+  pub row-keeps : classRule c (getD (startsOf c) j 0) s (getD (spansArray c (countAt c) s) (3 * j) 0 + r * getD (spansArray c (countAt c) s) (3 * j + 2) 0) ≡ true
+  row-keeps = class-clean c (countAt c) s (getD (startsOf c) j 0) _ row-some row-of .0
+
+  pub cell-keeps : (m : ℕ) → m < columnsFrom c (countAt c - (getD (startsOf c) j 0 + 1)) (getD (startsOf c) j 0 + 1)
+      → cellRule c (getD (startsOf c) j 0 + 1 + m) s (cellPlace (getD (spansArray c (countAt c) s) (3 * j) 0 + r * getD (spansArray c (countAt c) s) (3 * j + 2) 0) m) ≡ true
+  cell-keeps m k =
+      let z : 0 + m ≡ m = omega arith in
+      rw z at
+      (cell-clean c (countAt c) s (countAt c - (getD (startsOf c) j 0 + 1)) (getD (startsOf c) j 0 + 1) _ 0
+      (class-clean c (countAt c) s (getD (startsOf c) j 0) _ row-some row-of .1) m k)

@@ -1,38 +1,32 @@
 -- An accepted store over an accepted catalogue: each class keeps what is known of it, each value is null or of its column's type.
 -- Assumes nothing.
-use Prim.Native.Nat.{ℕ, zero, suc, _+_, _-_, _*_, _/_, _%_, _^_, _<_, _≤_}
-use mathlib.Core.Path.{_≡_, refl, sym, ap, _∙_}
-use mathlib.Core.Bool.{Bool, true, false, cond, _&&_, So, and-eq-true-iff, false≢true}
+use Prim.Native.Nat.{ℕ, zero, suc, _+_, _-_, _/_, _%_, _^_, _<_, _≤_}
+use mathlib.Core.Path.{_≡_, refl, sym, _∙_}
+use mathlib.Core.Bool.{Bool, true, false, cond, _&&_, So, and-eq-true-iff}
 use mathlib.Core.List.{List, [], _∷_}
 use native.Mathlib.Omega.{arith}
 use native.Mathlib.Nat.{pow-le-pow-right}
-use borrow.Author.Tests.{leb-true, ltb-true, ltb-false, lt-ltb, le-ltb, eqb-true, eqb-false, eq-eqb, ne-eqb}
-use lib.ListN.{length, getD}
+use borrow.Author.Tests.{leb-true, ltb-true, ltb-false, lt-ltb, eqb-true, eqb-false}
+use lib.ListN.{getD}
 use lib.Dec.{eqb, ltb, leb}
-use lib.IntN.{ℤ, pos, negsuc, natAbs}
-use lib.Signed.{mag}
+use lib.IntN.{pos, negsuc}
 use Rattle.word.specs.Bytes.{u16At, u32At, signed32, bits32, i32At}
 use Rattle.word.specs.Header.{countAt}
 use Rattle.word.specs.Record.{kindAt, opAt, bAt, cAt}
-use Rattle.word.proofs.Laws.{signed-low, signed-high}
-use Rattle.class.specs.Info.{infoBy, infoTest, InfoOk}
+use Rattle.class.specs.Info.{infoBy, infoTest}
 use Rattle.class.proofs.Infos.{ok-of}
 use Rattle.cell.specs.Types.{digitsRule, typeRule, typeBy}
 use Rattle.cell.specs.Values.{digits, word32, HasTy, ok-null, ok-truth, ok-fixed, ok-time, ok-interval, ok-class}
 use Rattle.cell.proofs.Words.{by-boolean, by-fixed, by-time, by-interval, by-class, by-none, rule-fixed}
-use Rattle.cell.specs.declared.Type.{«Type» as Ty}
 use Rattle.cell.specs.declared.Type.the-variants as T
-use Rattle.cell.specs.declared.Value.{Value}
 use Rattle.cell.specs.declared.Value.the-variants.{Null}
-use Rattle.cell.specs.declared.Cell.{Cell}
 use Rattle.catalogue.specs.Fault as fault
-use Rattle.catalogue.specs.Tables.{Column, Table, columnAt, colsFrom, tableAt, tablesFrom, catalogueOf}
+use Rattle.catalogue.specs.Tables.{columnAt, colsFrom, tableAt, tablesFrom, catalogueOf}
 use Rattle.catalogue.specs.declared.Verdict.the-variants as variants
 use Rattle.catalogue.proofs.Meaning as catalogue
 use Rattle.catalogue.proofs.Faultless.{column-ok}
-use Rattle.store.specs.Layout.{classRule, magnitude, valueRule, cellRule, cellPlace, rowSize, placeAfter, first, cellsFault, rowFault, rowsFault, tableFault, faultFrom, checkOf}
-use Rattle.store.specs.Rows.{Row, All, All2, CellOk, RowOk, StoreOk, valueOf, cellAt, cellsFrom, rowAt, rowsFrom, tableRows, tablesRows, storeOf}
-use Rattle.store.specs.declared.Verdict.{Verdict}
+use Rattle.store.specs.Layout.{classRule, magnitude, valueRule, cellRule, cellPlace, rowSize, placeAfter, cellsFault, rowFault, rowsFault, tableFault, faultFrom, checkOf}
+use Rattle.store.specs.Rows.{All, All2, CellOk, RowOk, StoreOk, valueOf, cellAt, cellsFrom, rowAt, rowsFrom, tableRows, tablesRows, storeOf}
 use Rattle.store.specs.declared.Verdict.the-variants.{Fine}
 use Rattle.store.proofs.Meaning.{after-more, accepted}
 use Rattle.store.proofs.Faultless.{first-none, class-clean, place-some}
@@ -95,7 +89,7 @@ module _ (high low v : ℕ) where
 -- ---- cells and rows
 
 module _ (c s : List ℕ) where
-  cell-ok : (i at : ℕ) → typeRule (cAt c i / 256) (cAt c i % 256) ≡ true → cellRule c i s at ≡ true → CellOk (columnAt c i) (cellAt s (typeBy (cAt c i / 256) (cAt c i % 256)) at)
+  pub cell-ok : (i at : ℕ) → typeRule (cAt c i / 256) (cAt c i % 256) ≡ true → cellRule c i s at ≡ true → CellOk (columnAt c i) (cellAt s (typeBy (cAt c i / 256) (cAt c i % 256)) at)
   unfolding cellRule classRule columnAt cellAt i32At
   cell-ok i at t e =
       let (a, b) = and-eq-true-iff (leb (getD s at 0) 1 && eqb (getD s (at + 1) 0) 0) (infoTest (infoBy (opAt c i) (bAt c i)) (u16At s (at + 2)) && valueRule (cAt c i / 256) (cAt c i % 256) (getD s at 0) (u32At s (at + 4))) .0 e in

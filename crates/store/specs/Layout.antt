@@ -1,7 +1,7 @@
 -- A store over a catalogue of n records (31 to 33): how long it has to be, and its first row class or cell that breaks its rule.
 -- A byte past the end counts as 0. Assumes nothing.
 use Prim.Native.Nat.{ℕ, zero, suc, _+_, _-_, _*_, _/_, _%_, _^_}
-use mathlib.Core.Bool.{Bool, true, false, cond, _&&_}
+use mathlib.Core.Bool.{Bool, true, cond, _&&_}
 use mathlib.Core.List.{List}
 use lib.ListN.{getD, length}
 use lib.Dec.{eqb, ltb, leb}

@@ -2,7 +2,7 @@
 // The definitions are in specs/: Layout has the check, Rows what a store says.
 ghost use mathlib.Core.Path.{_≡_};
 ghost use Prim.Native.Nat.{_+_, _-_, _*_, _^_, _≤_, _<_};
-ghost use lib.ListN.{length, getD};
+ghost use lib.ListN.{getD};
 ghost use Rattle.word.specs.Bytes.{u16At, u32At};
 ghost use Rattle.word.specs.Record.{kindAt, opAt, bAt, cAt};
 ghost use Rattle.class.specs.Info.{infoBy};
