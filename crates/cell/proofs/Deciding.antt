@@ -10,7 +10,7 @@ use lib.IntN.{ℤ, pos, _*ℤ_}
 use lib.Signed.{quotZ}
 use Rattle.cell.specs.Res.{Res, stuck, done, bind}
 use Rattle.cell.specs.Values.{isNull, asTruth, asFixed, asTime, asInterval, asClass, kindV, scaleV, numberV, truthV, classV, testOf}
-use Rattle.cell.specs.Apply.{Three, no, yes, unknown, and3, or3, not3, of3, as3, is3, asCond, cutFixed, cutTime, cutInterval, upTo, sumZ, orderZ, equalZ, productFixed, productInterval, ruled, sumN, productN, orderN, equalN, settled, logicV, negate, convert}
+use Rattle.cell.specs.Apply.{Three, no, yes, unknown, of3, as3, asCond, cutFixed, cutTime, cutInterval, upTo, sumZ, orderZ, equalZ, productFixed, productInterval, ruled, sumN, productN, orderN, equalN, settled, logicV, negate, convert}
 use Rattle.cell.specs.declared.Value.{Value}
 use Rattle.cell.specs.declared.Value.the-variants.{Null, Truth, Fixed, Time, Interval, Class}
 use Rattle.cell.specs.declared.Test.the-variants as S

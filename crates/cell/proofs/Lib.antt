@@ -7,3 +7,4 @@ pub mod Sound
 pub mod Signed
 pub mod Tens
 pub mod Deciding
+pub mod Outcomes

@@ -1,21 +1,14 @@
 -- Signed numbers, for proofs of functions that compute with i32 and i64. A bound is said of `natAbs z`, a ℕ, so that omega reads it.
---   abs-mul, abs-quot, abs-neg    of a product, of a quotient cut towards zero, of a negation: exact
---   abs-add, abs-sub              of a sum and of a difference: at most the sum
---   fits-abs                      a bound on natAbs is what an operation or a cast asks, `SFits w z`
---   abs-fits                      what a parameter, a result or an element brings, `SFits w z`, as a bound on natAbs
---   back64                        what the machine reads back from z's bits is z
---   same-bits                     `==` on two signed numbers
---   signed                        the set for `search` at a need of signed numbers
 -- Assumes nothing.
-use Prim.Native.Nat.{ℕ, zero, suc, _+_, _-_, _*_, _/_, _%_, _^_, _≤_, _<_}
+use Prim.Native.Nat.{ℕ, zero, suc, _+_, _-_, _*_, _/_, _^_, _≤_, _<_}
 use mathlib.Core.Path.{_≡_, refl, sym, ap, _∙_, subst}
 use mathlib.Core.Bool.{Bool, true, false, cond, _&&_, and-eq-true-iff, false≢true}
-use native.Mathlib.Nat.{mul-le-mul, le-of-lt, lt-of-le-of-lt, le-refl, le-antisymm, not-suc-le-zero, div-le-self}
+use native.Mathlib.Nat.{mul-le-mul, lt-of-le-of-lt, le-refl, le-antisymm, not-suc-le-zero}
 use native.Mathlib.Omega.{arith}
 use lib.Dec.{T, eqb, ltb, leb, ltb→lt}
 use borrow.Author.Tests.{ltb-true, le-leb, leb-true, eq-eqb, eqb-true, ne-eqb, eqb-false}
 use lib.IntN.{ℤ, pos, negsuc, negℤ, natAbs, +ℤ-idl, +ℤ-one, subℕ, _+ℤ_, _-ℤ_, _*ℤ_}
-use lib.Signed.{mag, quotZ, nonNeg, ltZ, leZ, natAbs-le}
+use lib.Signed.{mag, quotZ, nonNeg, ltZ, natAbs-le}
 use Rattle.cell.specs.Numbers.{Bounded}
 use Rattle.cell.specs.Apply.{equalZ}
 use mir.Syntax.{Width, w32, w64}
@@ -67,21 +60,11 @@ fits-abs {w} {z} h = record { sfits = lt-of-le-of-lt (mag-abs z) h }
 pub abs-fits : {w : Width} {z : ℤ} → SFits w z → natAbs z ≤ 2 ^ hbits w
 abs-fits {w} {z} f = natAbs-le z (f .sfits)
 
-pub back : (w : Width) (z : ℤ) → natAbs z < 2 ^ hbits w → toZ w (ofZ w z) ≡ z
-back w z h = toZ-ofZ (fits-abs h)
-
 -- the product of two numbers of 32 bits has at most 62
 pub product-bound : (a b : ℤ) → natAbs a ≤ 2 ^ 31 → natAbs b ≤ 2 ^ 31 → natAbs (a *ℤ b) ≤ 2 ^ 62
 product-bound a b p q = rw (abs-mul a b) (mul-le-mul p q)
 
 -- ---- the sign
-
-pub abs-zero-sub : (z : ℤ) → natAbs (pos 0 -ℤ z) ≡ natAbs z
-abs-zero-sub z = rw (+ℤ-idl (negℤ z)) (abs-neg z)
-
-pub below-zero : (z : ℤ) → ltZ z (pos 0) ≡ true → T (nonNeg (pos 0 -ℤ z))
-below-zero (pos n) e = absurd (not-suc-le-zero (ltb-true n 0 e))
-below-zero (negsuc n) e = tt
 
 pub not-below-zero : (z : ℤ) → ltZ z (pos 0) ≡ false → T (nonNeg z)
 not-below-zero (pos n) e = tt
@@ -98,9 +81,6 @@ back32 z h = toZ-ofZ {w = w32} (record { sfits = h })
 
 pub back64 : (z : ℤ) → mag z < 2 ^ 63 → toZ w64 (ofZ w64 z) ≡ z
 back64 z h = toZ-ofZ {w = w64} (record { sfits = h })
-
-pub quot-bound : (a b : ℤ) {n : ℕ} → natAbs a < n → natAbs (quotZ a b) < n
-quot-bound a b h = omega (arith, abs-quot a b, div-le-self (natAbs a) (natAbs b))
 
 -- ---- a number below zero, one more, negated: what `reach` computes
 
@@ -136,27 +116,21 @@ not-zero z e = let n : natAbs z ≡ 0 → ⊥ = eqb-false _ _ e in omega arith
 pub bounded : (z : ℤ) (n : ℕ) {r : ℤ} → r ≡ z → natAbs z ≤ n → Bounded z n r
 bounded z n e h = record { is = e; small = rw e h }
 
--- ---- no overflow, as lemmas that `search` applies
+-- ---- no overflow
 
--- two numbers of 32 bits: their product, sum and difference fit 64
-pub mul-32 : {a b : ℤ} → SFits w32 a → SFits w32 b → SFits w64 (a *ℤ b)
-mul-32 {a} {b} p q = fits-abs (omega (arith, product-bound a b (abs-fits p) (abs-fits q)))
-
-pub add-32 : {a b : ℤ} → SFits w32 a → SFits w32 b → SFits w64 (a +ℤ b)
-add-32 {a} {b} p q = fits-abs (omega (arith, abs-add a b, abs-fits))
-
-pub sub-32 : {a b : ℤ} → SFits w32 a → SFits w32 b → SFits w64 (a -ℤ b)
-sub-32 {a} {b} p q = fits-abs (omega (arith, abs-sub a b, abs-fits))
+-- two numbers of 32 bits: their product fits 64
+pub mul-fits : {a b : ℤ} → SFits w32 a → SFits w32 b → SFits w64 (a *ℤ b)
+mul-fits {a} {b} p q = fits-abs (omega (arith, product-bound a b (abs-fits p) (abs-fits q)))
 
 -- two numbers of magnitude at most 2^61: their sum and difference fit 64
-pub add-61 : (a b : ℤ) → natAbs a ≤ 2 ^ 61 → natAbs b ≤ 2 ^ 61 → SFits w64 (a +ℤ b)
-add-61 a b p q = fits-abs (omega (arith, abs-add a b))
+pub add-fits : (a b : ℤ) → natAbs a ≤ 2 ^ 61 → natAbs b ≤ 2 ^ 61 → SFits w64 (a +ℤ b)
+add-fits a b p q = fits-abs (omega (arith, abs-add a b))
 
-pub sub-61 : (a b : ℤ) → natAbs a ≤ 2 ^ 61 → natAbs b ≤ 2 ^ 61 → SFits w64 (a -ℤ b)
-sub-61 a b p q = fits-abs (omega (arith, abs-sub a b))
+pub sub-fits : (a b : ℤ) → natAbs a ≤ 2 ^ 61 → natAbs b ≤ 2 ^ 61 → SFits w64 (a -ℤ b)
+sub-fits a b p q = fits-abs (omega (arith, abs-sub a b))
 
 -- what a need of signed numbers is searched with: `search signed`
-pub ruleset signed = (needs, sfits-widen, mul-32, add-32, sub-32, add-61, sub-61)
+pub ruleset signed = (needs, sfits-widen, mul-fits)
 
 -- ---- equality: `==` compares the bits
 

@@ -1,6 +1,6 @@
 -- THE LAW of types and values: an operator over operands of types that its rule takes isn't stuck, and gives null or a value of the rule's type.
 -- Assumes nothing.
-use Prim.Native.Nat.{ℕ, _≤_, _<_, _-_, _+_, _^_, max, min}
+use Prim.Native.Nat.{ℕ, _≤_, _-_, _+_, _^_, max, min}
 use mathlib.Core.Path.{_≡_, refl, sym, _∙_, subst}
 use mathlib.Core.Bool.{Bool, true, false, cond, not, _&&_, _||_, So, and-eq-true-iff, or-true, true≢false, false≢true}
 use native.Mathlib.Omega.{arith}
@@ -8,7 +8,7 @@ use borrow.Author.Tests.{le-leb, eqb-true}
 use lib.Dec.{eqb, leb}
 use lib.IntN.{ℤ, pos, natAbs, _*ℤ_}
 use lib.Signed.{quotZ}
-use Rattle.cell.specs.Res.{Res, stuck, done, bind}
+use Rattle.cell.specs.Res.{Res, done, bind}
 use Rattle.cell.specs.Types.{digitsRule, inRule, digitsOf, scaleOf, binopType, sameType, limbType}
 use Rattle.cell.specs.Values.{digits, word32, HasTy, ok-null, ok-truth, ok-fixed, ok-time, ok-interval, ok-class, isNull, asTruth, asFixed, asTime, asInterval, asClass, kindV}
 use Rattle.cell.specs.Apply.{Three, no, yes, unknown, and3, or3, not3, of3, as3, is3, asCond, cutFixed, cutTime, cutInterval, upTo, sumZ, quotient, productFixed, productInterval, sumTakes, sumN, productTakes, productN, orderTakes, orderN, equalN, equalV, orNull, settled, logicV, apply, negate, convert}

@@ -1,12 +1,12 @@
 -- Laws of types: digits in rule, words and types, equal types, and what the type rules give.
 -- Assumes nothing.
-use Prim.Native.Nat.{ℕ, zero, suc, _≤_, _<_, _+_, _*_, _/_, _%_, max}
+use Prim.Native.Nat.{ℕ, zero, suc, _≤_, _<_, _/_, _%_, max}
 use mathlib.Core.Path.{_≡_, refl, sym, _∙_}
-use mathlib.Core.Bool.{Bool, true, false, cond, _&&_, _||_, So, and-eq-true-iff, true≢false, false≢true}
+use mathlib.Core.Bool.{Bool, true, false, cond, _&&_, _||_, and-eq-true-iff, true≢false, false≢true}
 use native.Mathlib.Omega.{arith}
 use borrow.Author.Tests.{le-leb, leb-true, leb-false, eq-eqb, eqb-true}
 use lib.Dec.{eqb, leb}
-use Rattle.cell.specs.Res.{Res, stuck, done}
+use Rattle.cell.specs.Res.{stuck, done}
 use Rattle.cell.specs.Types.{digitsRule, typeRule, typeBy, inRule, wordOf, kindOf, digitsOf, scaleOf, formatOf, widerOf, both, if, sumType, productType, logicType, orderType, equalType, binopType, sameType, limbType}
 use Rattle.cell.specs.declared.Type.{«Type» as Ty}
 use Rattle.cell.specs.declared.Type.the-variants.{Null, Boolean, Fixed, Time, Interval, Class}

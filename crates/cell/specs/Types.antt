@@ -1,9 +1,9 @@
 -- Types, the catalogue's word for each, and the type rules of operators and of IF.
 -- Assumes nothing.
 use Prim.Native.Nat.{ℕ, _+_, _*_, _/_, _%_, max}
-use mathlib.Core.Bool.{Bool, true, false, cond, _&&_, _||_}
+use mathlib.Core.Bool.{Bool, true, cond, _&&_, _||_}
 use lib.Dec.{eqb, leb}
-use Rattle.cell.specs.Res.{Res, stuck, done, bind}
+use Rattle.cell.specs.Res.{Res, stuck, done}
 use Rattle.cell.specs.declared.Type.{«Type» as Ty}
 use Rattle.cell.specs.declared.Type.the-variants.{Null, Boolean, Fixed, Time, Interval, Class}
 use Rattle.cell.specs.declared.Judged.{Judged}

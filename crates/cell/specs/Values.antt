@@ -5,7 +5,7 @@ use mathlib.Core.Bool.{Bool, true, false, cond, _&&_, So}
 use lib.Dec.{ltb, leb}
 use lib.IntN.{ℤ, pos, natAbs}
 use lib.Signed.{mag}
-use Rattle.cell.specs.Res.{Res, stuck, done, bind}
+use Rattle.cell.specs.Res.{Res, stuck, done}
 use Rattle.cell.specs.Types.{digitsRule}
 use Rattle.cell.specs.declared.Type.{«Type» as Ty}
 use Rattle.cell.specs.declared.Type.the-variants as T

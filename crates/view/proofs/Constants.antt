@@ -1,26 +1,25 @@
 -- The constants of a view: a constant's value is of its type, its type is in rule, and its record is the type's and the value's own.
 -- Assumes nothing.
 use Prim.Native.Nat.{ℕ, zero, suc, _+_, _-_, _*_, _/_, _%_, _≤_, _<_}
-use mathlib.Core.Path.{_≡_, refl, sym, ap, _∙_}
-use mathlib.Core.Bool.{Bool, true, false, cond, _&&_}
+use mathlib.Core.Path.{_≡_, refl, sym, _∙_}
+use mathlib.Core.Bool.{true, cond, _&&_}
 use mathlib.Core.List.{List}
 use native.Mathlib.Omega.{arith}
 use borrow.Author.Tests.{eqb-true, leb-true, lt-ltb}
 use lib.Dec.{eqb, leb, ltb}
-use lib.IntN.{ℤ, pos, natAbs}
+use lib.IntN.{pos, natAbs}
 use lib.ListN.{getD}
 use lib.Signed.{mag}
-use Rattle.word.specs.Bytes.{signed32, bits32}
+use Rattle.word.specs.Bytes.{bits32}
 use Rattle.word.specs.Record.{recAt}
 use Rattle.word.specs.declared.Rec.{Rec}
 use Rattle.word.proofs.Laws.{bits-signed, signed-small}
 use Rattle.cell.specs.Types.{digitsRule, inRule}
 use Rattle.cell.specs.Values.{digits, numberIn, HasTy, ok-null, ok-truth, ok-fixed, ok-time, ok-interval, ok-class}
 use Rattle.cell.specs.declared.Type.{«Type» as Ty}
-use Rattle.cell.specs.declared.Type.the-variants as T
 use Rattle.cell.specs.declared.Value.{Value}
-use Rattle.cell.specs.declared.Value.the-variants as X
-use Rattle.view.specs.Record.{bare, opOnly, aOnly, valueIn, nodeOf, nodeAt, constRec}
+use Rattle.view.specs.Record.{opOnly, valueIn, nodeOf, nodeAt, constRec}
+use Rattle.view.specs.declared.Node.{Node}
 use Rattle.view.specs.declared.Node.the-variants.{Const}
 use Rattle.view.proofs.Laws.{and-left, and-right}
 use Rattle.view.proofs.Says.{Says, says-null, says-truth, says-fixed, says-time, says-interval, says-class, says-node}
@@ -114,3 +113,18 @@ ruled r (says-class k e) = refl
 -- a constant's type is in rule
 pub const-ruled : (r : Rec) {t : Ty} {x : Value} → nodeOf r ≡ Const t x → inRule t ≡ true
 const-ruled r e = ruled r (says-node r e)
+
+-- the same of record i of a view, as a pass holds it
+module _ (v : List ℕ) (i : ℕ) {nd : Node} {t : Ty} {x : Value} (e : nd ≡ nodeAt v i) (f : nd ≡ Const t x) where
+  here : nodeOf (recAt v i) ≡ Const t x
+  unfolding nodeAt
+  here = sym e ∙ f
+
+  pub typed-at : ((j : ℕ) → getD v j 0 < 256) → HasTy t x
+  typed-at h = const-typed (recAt v i) (small v i h) here
+
+  pub again-at : ((j : ℕ) → getD v j 0 < 256) → recAt v i ≡ constRec t x
+  again-at h = const-again (recAt v i) (small v i h) here
+
+  pub ruled-at : inRule t ≡ true
+  ruled-at = const-ruled (recAt v i) here

@@ -1,18 +1,18 @@
 -- An induction over the values that were read, one case for each kind; and where a value ends.
 -- Assumes nothing.
-use Prim.Native.Nat.{ℕ, zero, suc, _+_, _-_, _*_, _<_, _≤_}
+use Prim.Native.Nat.{ℕ, zero, suc, _+_, _-_, _<_, _≤_}
 use mathlib.Core.Path.{_≡_, refl, sym, ap, _∙_}
 use mathlib.Core.List.{List, [], _∷_}
 use native.Mathlib.Omega.{arith}
 use Rattle.cell.specs.declared.Type.{«Type» as Ty}
 use Rattle.cell.specs.declared.Value.{Value}
-use Rattle.view.specs.Ast.{TabName, Exp, Parsed, ok}
+use Rattle.view.specs.Ast.{Exp, Parsed, ok}
 use Rattle.view.specs.Ast as ast
 use Rattle.view.specs.Record.{nodeAt}
 use Rattle.view.specs.Parse.{many, namesAt, parseValue}
 use Rattle.view.specs.declared.Node.{Node}
 use Rattle.view.specs.declared.Node.the-variants.{Const, Binop, Not, If, Exists, Single, Table, Select, Col, Classof, Let, Bad}
-use Rattle.view.proofs.Read.{was-read, here-ok, One, Two, Three, none-ok, more-ok, Listed, const-read, col-read, classof-read, not-read, binop-read, let-read, if-read, exists-read, exists-listed, single-read, single-listed, no-table, no-select, no-bad}
+use Rattle.view.proofs.Read.{was-read, here-ok, none-ok, more-ok, Listed, const-read, col-read, classof-read, not-read, binop-read, let-read, if-read, exists-read, exists-listed, single-read, single-listed, no-table, no-select, no-bad}
 
 -- a parser reads one thing
 same-read : {A : Type 0} {P : Parsed A} {a b : A} {j k : ℕ} (Q : A → ℕ → Type 0) → P ≡ ok a j → P ≡ ok b k → Q a j → Q b k

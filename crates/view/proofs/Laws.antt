@@ -1,9 +1,9 @@
 -- How the code's answers tell what the parser said, and what the parser says of a value, a block and the root, by their parts.
 -- Assumes nothing.
-use Prim.Native.Nat.{ℕ, zero, suc, _+_, _-_, _*_, _<_, _≤_}
+use Prim.Native.Nat.{ℕ, zero, suc, _+_, _-_, _<_, _≤_}
 use mathlib.Core.Path.{_≡_, refl, sym, ap, _∙_}
 use mathlib.Core.Bool.{Bool, true, false, cond, _&&_}
-use mathlib.Core.List.{List, [], _∷_}
+use mathlib.Core.List.{List, _∷_}
 use native.Mathlib.Omega.{arith}
 use lib.Dec.{eqb, ltb}
 use borrow.Author.Tests.{ltb-true, eqb-true, eq-eqb, ne-eqb}
@@ -29,6 +29,10 @@ and-left false b e = e
 pub and-right : (a b : Bool) → (a && b) ≡ true → b ≡ true
 and-right true b e = e
 and-right false b e = absurd (let h : _≡_ {A = ℕ} 0 1 = cc in omega arith)
+
+-- a number that is none of the next ones lies above them
+pub above : (k n : ℕ) → k ≤ n → (n ≡ k → ⊥) → k + 1 ≤ n
+above k n h f = omega arith
 
 -- the code's answers
 pub walk-next : {A : Type 0} (P : Parsed A) {r : Walk} {m : ℕ} → r ≡ walkOf P → r ≡ W.Next m → (a : A) × (P ≡ ok a m)
@@ -124,10 +128,6 @@ walk-cong (refused i j) f g h = refl
 
 -- one, two and three children are so many values in a row
 module _ (p : ℕ → Parsed Exp) where
-  none-walk : (at : ℕ) → walkOf (many p 0 at) ≡ W.Next at
-  unfolding many walkOf
-  none-walk at = refl
-
   pub one-walk : (at : ℕ) (f : Exp → Exp) → walkOf (andThen (p at) (λ x a. ok (f x) a)) ≡ walkOf (many p 1 at)
   unfolding many
   one-walk at f = walk-cong (p at) _ _ (λ x a. (unfold walkOf andThen in refl))
@@ -147,7 +147,7 @@ module _ {A : Type 0} (p : ℕ → Parsed A) where
   many-refused zero at z e = absurd (omega arith)
   many-refused (suc c) at z e = rw e
 
-  pub many-next : (c at : ℕ) {a : A} {m : ℕ} → 0 < c → p at ≡ ok a m → many p c at ≡ andThen (many p (c - 1) m) (λ xs k. ok (a ∷ xs) k)
+  many-next : (c at : ℕ) {a : A} {m : ℕ} → 0 < c → p at ≡ ok a m → many p c at ≡ andThen (many p (c - 1) m) (λ xs k. ok (a ∷ xs) k)
   unfolding many andThen
   many-next zero at z e = absurd (omega arith)
   many-next (suc c) at z e = let h : suc c - 1 ≡ c = omega arith in rw (e, h)

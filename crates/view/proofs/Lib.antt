@@ -1,5 +1,6 @@
 -- The laws of a view: what its records say, how the code's answers tell the parser's, and what an accepted view holds.
 -- Assumes nothing.
+pub mod Children
 pub mod Constants
 pub mod Induction
 pub mod Laws

@@ -1,12 +1,12 @@
 -- What a record says, by its kind: one law for each way out of the code that decodes it, for `search nodes`.
 -- Assumes nothing.
 use Prim.Native.Nat.{ℕ, _+_, _-_, _*_, _/_, _%_, _^_, _≤_, _<_}
-use mathlib.Core.Path.{_≡_, refl, sym, ap, _∙_}
+use mathlib.Core.Path.{_≡_, sym, _∙_}
 use mathlib.Core.List.{List}
-use mathlib.Core.Bool.{Bool, true, false, cond, _&&_, and-false}
+use mathlib.Core.Bool.{Bool, true, false, _&&_, and-false}
 use native.Mathlib.Omega.{arith}
 use native.Mathlib.Nat.{le-antisymm}
-use borrow.Author.Tests.{le-leb, lt-leb, lt-ltb, le-ltb, ne-eqb, leb-true}
+use borrow.Author.Tests.{le-leb, lt-leb, ne-eqb, leb-true}
 use borrow.Author.Needs.{needs}
 use lib.Dec.{eqb, leb, ltb}
 use lib.IntN.{ℤ, natAbs}
@@ -18,10 +18,10 @@ use Rattle.cell.specs.Types.{digitsRule}
 use Rattle.cell.specs.Values.{digits}
 use Rattle.cell.specs.declared.Type.the-variants as T
 use Rattle.cell.specs.declared.Value.the-variants as X
-use Rattle.view.specs.Record.{when, bare, opOnly, aOnly, valueIn, constOf, nodeOf, nodeAt}
+use Rattle.view.specs.Record.{when, bare, opOnly, aOnly, constOf, nodeOf, nodeAt}
 use Rattle.view.specs.declared.Node.{Node}
 use Rattle.view.specs.declared.Node.the-variants.{Const, Binop, Not, If, Exists, Single, Table, Select, Col, Classof, Let, Bad}
-use Rattle.view.proofs.Laws.{and-left, and-right}
+use Rattle.view.proofs.Laws.{above, and-left, and-right}
 
 -- the magnitude of a signed value, by its bits
 pub size-low : (n : ℕ) → n < 2147483648 → n ≡ natAbs (signed32 n)
@@ -31,9 +31,6 @@ pub size-high : (n : ℕ) → 2147483648 ≤ n → 4294967295 - n + 1 ≡ natAbs
 size-high n h = rw (signed-high n h) (omega arith)
 
 -- 10^9, where p is none of 0 to 8
-above : (k p : ℕ) → k ≤ p → (p ≡ k → ⊥) → k + 1 ≤ p
-above k p h n = omega arith
-
 pub ten-nine : (p : ℕ) → p ≤ 9 → (p ≡ 0 → ⊥) → (p ≡ 1 → ⊥) → (p ≡ 2 → ⊥) → (p ≡ 3 → ⊥) → (p ≡ 4 → ⊥) → (p ≡ 5 → ⊥) → (p ≡ 6 → ⊥) → (p ≡ 7 → ⊥) → (p ≡ 8 → ⊥) → 1000000000 ≡ 10 ^ p
 ten-nine p h a b c d e f g i j =
     let low = above 3 p (above 2 p (above 1 p (above 0 p (omega arith) a) b) c) d in

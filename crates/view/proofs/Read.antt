@@ -1,8 +1,7 @@
--- What the parser's ok tells a later pass: of a value, by its node, where its children were read; of a block, of so many in a row; and an induction over what was read.
+-- What the parser's ok tells a later pass: of a value, by its node, where its children were read; of a block; of so many in a row.
 -- Assumes nothing.
-use Prim.Native.Nat.{ℕ, zero, suc, _+_, _-_, _*_, _<_, _≤_}
+use Prim.Native.Nat.{ℕ, zero, suc, _+_, _-_, _<_, _≤_}
 use mathlib.Core.Path.{_≡_, refl, sym, ap, _∙_}
-use mathlib.Core.Bool.{Bool, true, false, cond}
 use mathlib.Core.List.{List, [], _∷_}
 use native.Mathlib.Omega.{arith}
 use lib.Dec.{eqb}
@@ -10,7 +9,7 @@ use borrow.Author.Tests.{eqb-false}
 use Rattle.word.specs.Record.{aAt}
 use Rattle.cell.specs.declared.Type.{«Type» as Ty}
 use Rattle.cell.specs.declared.Value.{Value}
-use Rattle.view.specs.Ast.{TabName, Exp, Block, firstOf, Parsed, ok, refused, andThen, nextOf, WasRead}
+use Rattle.view.specs.Ast.{TabName, Exp, Block, firstOf, Parsed, ok, andThen, nextOf, WasRead}
 use Rattle.view.specs.Ast as ast
 use Rattle.view.specs.Record.{nodeAt, slotOf}
 use Rattle.view.specs.Parse.{enter, many, nameOf, namesAt, parseTable, parseBlock, parseNode, parseValue}
@@ -155,6 +154,9 @@ more-ok p (suc c) at z w =
     record { head = s .0; mid = s .1; tail = t .0; end = t .1; first = s .2; rest = rw h (t .2); whole = w .is ∙ sym (t .3) }
 
 -- as a loop goes: c in all, i gone, the next at m
+pub more-begin : {A : Type 0} (p : ℕ → Parsed A) (c m : ℕ) → WasRead (many p c m) → WasRead (many p (c - 0) m)
+more-begin p c m w = let h : c - 0 ≡ c = omega arith in rw h w
+
 module _ {A : Type 0} (p : ℕ → Parsed A) (c i m : ℕ) (w : WasRead (many p (c - i) m)) (z : i < c) where
   pub more-first : WasRead (p m)
   more-first = was-read (more-ok p (c - i) m (omega arith) w .first)
@@ -277,6 +279,17 @@ block-ok v n d p nt nv at {b} {end} h =
     let z : u .0 ≡ b .values = ap (λ (c : Block). c .values) r in
     let q : u .1 ≡ end = cc in
     record { mid = t .1; names = sym x ∙ g .names; listed = g .listed; first = ap p (sym (g .next)) ∙ t .2 ∙ ap (λ (w : Exp). ok w (t .1)) y; rest = u .2 ∙ ap (λ (ws : List Exp). ok ws (u .1)) z ∙ ap (ok (b .values)) q }
+
+-- its where, its values and its tables, as a pass goes through them
+module _ (v : List ℕ) (n d : ℕ) (p : ℕ → Parsed Exp) (nt nv at : ℕ) (w : WasRead (parseBlock v n d p nt nv at)) where
+  pub block-test : WasRead (p (at + nt))
+  block-test = was-read (block-ok v n d p nt nv at (w .is) .first)
+
+  pub block-values : {m : ℕ} → m ≡ nextOf (p (at + nt)) → WasRead (many p nv m)
+  block-values e = let h = block-ok v n d p nt nv at (w .is) in let g = e ∙ next-is (h .first) in rw g (was-read (h .rest))
+
+  pub block-tables : at ≤ n → Listed v n at nt
+  block-tables = block-ok v n d p nt nv at (w .is) .listed
 
 -- EXISTS and VALUE, by their block
 module _ (v : List ℕ) (n d : ℕ) (p : ℕ → Parsed Exp) (a at : ℕ) (P : Parsed Exp) where

@@ -8,7 +8,7 @@ use Rattle.word.specs.Bytes.{signed32, le16}
 use Rattle.word.specs.Header.{drq, drc, headed, header}
 use Rattle.word.specs.Record.{recAt, recBytes}
 use Rattle.cell.specs.Types.{digitsRule}
-use Rattle.view.specs.Ast.{Block, Parsed, ok, refused, andThen, firstOf}
+use Rattle.view.specs.Ast.{Block, ok, andThen, firstOf}
 use Rattle.view.specs.Ast as ast
 use Rattle.view.specs.Record.{constOf, nodeOf, nodeAt, slotOf}
 use Rattle.view.specs.Parse.{enterNode, enter, many, nameOf, parseTable, parseBlock, parseNode, parseValue, rootNode, parseRoot, parseView, verdictOf, checkOf}

@@ -1,10 +1,9 @@
 -- What a record says, taken apart: each kind with the test that its fields passed, and the ranges of the fields of an accepted node.
 -- Assumes nothing.
-use Prim.Native.Nat.{ℕ, _+_, _*_, _/_, _%_, _≤_, _<_}
-use mathlib.Core.Path.{_≡_, refl, sym, ap, _∙_}
+use Prim.Native.Nat.{ℕ, _/_, _%_, _≤_}
+use mathlib.Core.Path.{_≡_, refl, sym, _∙_}
 use mathlib.Core.Bool.{Bool, true, false, cond, _&&_}
 use mathlib.Core.List.{List}
-use native.Mathlib.Omega.{arith}
 use native.Mathlib.Nat.{le-antisymm}
 use borrow.Author.Tests.{eqb-true, eqb-false, leb-true}
 use lib.Dec.{eqb, leb}
@@ -18,7 +17,7 @@ use Rattle.cell.specs.declared.Value.the-variants as X
 use Rattle.view.specs.Record.{when, bare, opOnly, aOnly, valueIn, constOf, nodeOf, nodeAt}
 use Rattle.view.specs.declared.Node.{Node}
 use Rattle.view.specs.declared.Node.the-variants.{Const, Binop, Not, If, Exists, Single, Table, Select, Col, Classof, Let, Bad}
-use Rattle.view.proofs.Laws.{and-left, and-right}
+use Rattle.view.proofs.Laws.{above, and-left, and-right}
 
 -- a node that a record says, with its kind and the test of its fields
 pub data Says (r : Rec) : Node → Type 0 where
@@ -40,9 +39,6 @@ pub data Says (r : Rec) : Node → Type 0 where
   says-classof : r .kind ≡ 15 → (leb 1 (r .a) && (eqb (r .op) 0 && eqb (r .c) 0)) ≡ true → Says r (Classof (r .a) (r .b))
   says-let : r .kind ≡ 16 → (leb 1 (r .a) && aOnly r) ≡ true → Says r (Let (r .a))
   says-bad : Says r Bad
-
-above : (k n : ℕ) → k ≤ n → (n ≡ k → ⊥) → k + 1 ≤ n
-above k n h f = omega arith
 
 six : (k : ℕ) → within 1 6 k ≡ true → (k ≡ 1 → ⊥) → (k ≡ 2 → ⊥) → (k ≡ 3 → ⊥) → (k ≡ 4 → ⊥) → (k ≡ 5 → ⊥) → k ≡ 6
 six k e a b c d f =

@@ -1,8 +1,8 @@
 -- A view that the check took: what a pass over it may start from. And a view that it refused.
 -- Assumes nothing.
-use Prim.Native.Nat.{ℕ, _+_, _-_, _*_, _<_, _≤_}
+use Prim.Native.Nat.{ℕ, _+_, _-_, _*_, _≤_}
 use mathlib.Core.Path.{_≡_, refl, sym, ap, _∙_}
-use mathlib.Core.Bool.{Bool, true, false, cond, _&&_}
+use mathlib.Core.Bool.{_&&_}
 use mathlib.Core.List.{List}
 use native.Mathlib.Omega.{arith}
 use lib.ListN.{length}
@@ -12,7 +12,7 @@ use Rattle.word.specs.Bytes.{within}
 use Rattle.word.specs.Header.{drq, headed, countAt}
 use Rattle.view.specs.Ast.{Block, Parsed, ok, refused, WasRead}
 use Rattle.view.specs.Record.{nodeAt, slotOf}
-use Rattle.view.specs.Parse.{enter, nameOf, parseBlock, parseValue, rootNode, parseRoot, parseView, verdictOf, checkOf}
+use Rattle.view.specs.Parse.{enter, parseBlock, parseValue, rootNode, parseRoot, parseView, verdictOf, checkOf}
 use Rattle.view.specs.declared.Node.{Node}
 use Rattle.view.specs.declared.Node.the-variants.{Const, Binop, Not, If, Exists, Single, Table, Select, Col, Classof, Let, Bad}
 use Rattle.view.specs.declared.Verdict.{Verdict}
@@ -85,7 +85,7 @@ root-ok v n {b} {m} e =
     let last : x .1 ≡ m = (let h = y .1 in cc) in
     record { tables = z .0; values = z .1; node = g .1 ∙ z .2; read = ap (rootNode v n) (sym (z .2)) ∙ x .2 ∙ ap (λ (c : Block). ok c (x .1)) same ∙ ap (ok b) end; end = sym last ∙ end }
 
-view-ok : (v : List ℕ) {b : Block} {m : ℕ} → parseView v ≡ ok b m → Taken v × (m ≡ countAt v)
+pub view-ok : (v : List ℕ) {b : Block} {m : ℕ} → parseView v ≡ ok b m → Taken v × (m ≡ countAt v)
 unfolding parseView
 view-ok v {b} {m} e =
     let s = cond-refused (headed drq v) 1 0 e in
@@ -111,6 +111,10 @@ view-ok v {b} {m} e =
       },
       r .end,
     )
+
+pub check-records : (v : List ℕ) {b : Block} {m : ℕ} → parseView v ≡ ok b m → checkOf v ≡ Out.Records m
+unfolding checkOf verdictOf
+check-records v e = rw e
 
 -- A VIEW THAT WAS TAKEN, as a caller of the check holds it
 module _ (v : List ℕ) {r : Verdict} (e : r ≡ checkOf v) where

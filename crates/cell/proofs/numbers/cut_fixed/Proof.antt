@@ -1,6 +1,6 @@
 -- `cell::cut_fixed` meets its contract: the code's test is the definition's.
 -- Assumes nothing.
-use Prim.Native.Nat.{_^_, _<_, _≤_}
+use Prim.Native.Nat.{_^_}
 use mathlib.Core.Path.{_≡_}
 use native.Mathlib.Omega.{arith}
 use borrow.Author.Needs.{needs}

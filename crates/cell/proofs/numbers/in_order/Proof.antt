@@ -1,6 +1,5 @@
 -- `cell::in_order` meets its contract.
 -- Assumes nothing.
-use mathlib.Core.Path.{_≡_}
 use borrow.Author.Tests.{ne-eqb}
 use mir.Facts.{toZ-ofZ}
 use Rattle.cell.proofs.numbers.in_order.Statement.{statement}

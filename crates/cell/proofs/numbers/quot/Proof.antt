@@ -1,6 +1,5 @@
 -- `cell::quot` meets its contract: the quotient is no larger than the dividend.
 -- Assumes nothing.
-use Prim.Native.Nat.{_^_}
 use native.Mathlib.Omega.{arith}
 use native.Mathlib.Nat.{div-le-self}
 use lib.IntN.{natAbs}

@@ -1,10 +1,11 @@
 -- `cell::rescaled` meets its contract: the product has 61 bits, and the divisor isn't 0.
 -- Assumes nothing.
-use Prim.Native.Nat.{_^_, _<_}
-use mathlib.Core.Path.{_≡_}
+use Prim.Native.Nat.{ℕ, _^_, _<_}
+use mathlib.Core.Path.{ap, ap₂, _∙_}
 use native.Mathlib.Omega.{arith}
 use borrow.Author.Needs.{needs}
-use lib.IntN.{natAbs}
+use lib.IntN.{ℤ, pos, natAbs, _*ℤ_}
+use lib.Signed.{quotZ}
 use mir.Facts.{toZ-ofZ}
 use Rattle.cell.proofs.Signed.{back64}
 use Rattle.cell.proofs.Tens.{ten-pos}
@@ -27,10 +28,10 @@ rescaled-spec =
     (λ c κs. search needs)
     (λ c κs. let p = small (c .before .before) in let t = above c in (search needs, search needs))
     (λ c.
-    let x = c .before .before .before in
-    cc (
-      back64 (c .quot .result) (c .quot .ok),
-      back64 (x .scaled .result) (x .scaled .ok),
-      back64 (c .before .ten-signed .result) (c .before .ten-signed .ok),
-      toZ-ofZ (x .before .before .fits .m),
-    )))
+    back64 _ (c .quot .ok)
+    ∙ c .quot .ensures
+    ∙ ap₂ quotZ
+    (back64 _ (c .before .before .before .scaled .ok)
+    ∙ c .before .before .before .scaled .ensures .is
+    ∙ ap₂ (λ (m : ℤ) (k : ℕ). m *ℤ pos (10 ^ k)) (toZ-ofZ (c .before .before .before .before .before .fits .m)) (c .before .before .before .before .excess .ensures))
+    (back64 _ (c .before .ten-signed .ok) ∙ c .before .ten-signed .ensures ∙ ap (λ (k : ℕ). pos (10 ^ k)) (c .before .before .excess2 .ensures))))

@@ -1,6 +1,5 @@
 -- `cell::size` meets its contract: the magnitude from what `reach` gives.
 -- Assumes nothing.
-use Prim.Native.Nat.{_^_}
 use native.Mathlib.Omega.{arith}
 use borrow.Author.Needs.{needs}
 use mir.Facts.{toZ-ofZ}

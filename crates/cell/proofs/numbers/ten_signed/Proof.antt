@@ -1,11 +1,8 @@
 -- `cell::ten_signed` meets its contract: 10^n fits 63 bits, and an unsigned number that does is itself when it is read as signed.
 -- Assumes nothing.
-use Prim.Native.Nat.{_^_}
 use native.Mathlib.Omega.{arith}
 use borrow.Author.Needs.{needs}
 use lib.IntN.{pos}
-use mir.Syntax.{w64}
-use mir.Val.{SFits}
 use mir.Facts.{toZ-ofZ}
 use Rattle.cell.proofs.Signed.{fits-abs}
 use Rattle.cell.proofs.Tens.{ten-le}

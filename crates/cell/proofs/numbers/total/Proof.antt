@@ -1,20 +1,19 @@
 -- `cell::total` meets its contract: the bounds of the two numbers keep the sum and the difference in 64 bits.
 -- Assumes nothing.
-use mathlib.Core.Path.{_≡_}
 use borrow.Author.Tests.{ne-eqb}
 use mir.Syntax.{w64}
 use mir.Val.{SFits}
 use mir.Facts.{toZ-ofZ}
 use lib.IntN.{_+ℤ_, _-ℤ_}
-use Rattle.cell.proofs.Signed.{add-61, sub-61}
+use Rattle.cell.proofs.Signed.{add-fits, sub-fits}
 use Rattle.cell.proofs.numbers.total.Statement.{statement}
 use Rattle.cell.proofs.numbers.total.Tie as tie
 
 sum : (c : tie.Start) → SFits w64 (c .args .a +ℤ c .args .b)
-sum c = add-61 (c .args .a) (c .args .b) (c .pre .0) (c .pre .1)
+sum c = add-fits (c .args .a) (c .args .b) (c .pre .0) (c .pre .1)
 
 difference : (c : tie.Start) → SFits w64 (c .args .a -ℤ c .args .b)
-difference c = sub-61 (c .args .a) (c .args .b) (c .pre .0) (c .pre .1)
+difference c = sub-fits (c .args .a) (c .args .b) (c .pre .0) (c .pre .1)
 
 pub total-spec : {M : Type 1} → statement M
 total-spec =

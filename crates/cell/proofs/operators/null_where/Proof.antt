@@ -1,6 +1,5 @@
 -- `cell::null_where` meets its contract.
 -- Assumes nothing.
-use borrow.Author.Needs.{needs}
 use Rattle.cell.specs.Values.{outcomeOf}
 use Rattle.cell.proofs.operators.null_where.Statement.{statement}
 use Rattle.cell.proofs.operators.null_where.Tie as tie

@@ -1,8 +1,11 @@
--- `cell::order_fixed` meets its contract: by congruence from what the calls ensure, each signed value read back from its bits.
+-- `cell::order_fixed` meets its contract: the operands brought to the larger scale.
 -- Assumes nothing.
 use borrow.Author.Needs.{needs}
+use mathlib.Core.Path.{ap₂, _∙_}
 use mir.Facts.{toZ-ofZ}
+use Rattle.cell.specs.Apply.{orderZ}
 use Rattle.cell.proofs.Signed.{back64}
+use Rattle.cell.proofs.Outcomes.{brought}
 use Rattle.cell.proofs.operators.order_fixed.Statement.{statement}
 use Rattle.cell.proofs.operators.order_fixed.Tie as tie
 
@@ -14,4 +17,4 @@ order-fixed-spec =
     (λ c κs. search needs)
     (λ c κs. search needs)
     (λ c κs. search needs)
-    (λ c. cc (back64 (c .before .before .raised .result) (c .before .before .raised .ok), back64 (c .before .raised2 .result) (c .before .raised2 .ok), toZ-ofZ (c .before .before .before .before .fits .m), toZ-ofZ (c .before .before .before .before .fits .n))))
+    (λ c. c .in-order .ensures ∙ ap₂ (orderZ (c .before .before .before .before .args .op)) (brought (c .before .before .before .before .args .s) (back64 _ (c .before .before .raised .ok)) (c .before .before .raised .ensures .is) (c .before .before .before .larger .ensures) (toZ-ofZ (c .before .before .before .before .fits .m))) (brought (c .before .before .before .before .args .t) (back64 _ (c .before .raised2 .ok)) (c .before .raised2 .ensures .is) (c .before .before .before .larger .ensures) (toZ-ofZ (c .before .before .before .before .fits .n)))))

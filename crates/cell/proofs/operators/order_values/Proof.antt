@@ -1,14 +1,29 @@
--- `cell::order_values` meets its contract: the definition, by kinds, is the code's decision.
+-- `cell::order_values` meets its contract: one law for each way out.
 -- Assumes nothing.
 use borrow.Author.Needs.{needs}
-use Rattle.cell.specs.Values.{testOf}
+use mathlib.Core.Path.{_∙_}
+use mir.Syntax.{w32}
+use mir.Val.{toZ, ofZ}
 use Rattle.cell.proofs.Signed.{back32, back64}
-use Rattle.cell.proofs.Deciding.{scales, orderBy, order-by}
+use Rattle.cell.proofs.Deciding.{scales}
+use Rattle.cell.proofs.Outcomes.{Seen, order-fixed, order-number, order-none}
 use Rattle.cell.proofs.operators.order_values.Statement.{statement}
 use Rattle.cell.proofs.operators.order_values.Tie as tie
 
+-- the kinds and the numbers of the two values
+seen : (c : tie.After-number2) →
+    Seen (c .before .before .before .before .args .u) (c .before .before .before .before .args .v) (c .before .before .before .kind .result) (c .before .before .kind2 .result)
+    (toZ w32 (ofZ w32 (c .before .number .result)))
+    (toZ w32 (ofZ w32 (c .number2 .result)))
+seen c =
+    record {
+      left-kind = c .before .before .before .kind .ensures;
+      right-kind = c .before .before .kind2 .ensures;
+      left-number = back32 _ (c .before .number .ok) ∙ c .before .number .ensures;
+      right-number = back32 _ (c .number2 .ok) ∙ c .number2 .ensures;
+    }
+
 pub order-values-spec : {M : Type 1} → statement M
-unfolding orderBy testOf
 order-values-spec =
     tie.close
     (tie.spec
@@ -19,9 +34,9 @@ order-values-spec =
     (λ c κs. search needs)
     (λ c κs. search needs)
     (λ c κs. scales (c .before .before .before .before .before .before .before .args .u) (c .before .before .before .before .before .before .before .args .v) _ _ _ _ (c .before .before .before .before .before .before .kind .ensures) (c .before .before .before .before .before .kind2 .ensures) (c .before .before .if1 .taken) (c .before .scale .ensures) (c .scale2 .ensures))
-    (λ c. let a = c .before .before .before .before .before .before .before .before .args in rw (order-by (a .op) (a .u) (a .v), ← c .before .before .before .before .before .before .before .kind .ensures, ← c .before .before .before .before .before .before .kind2 .ensures, c .before .before .before .if1 .taken) (cc (back32 (c .before .before .before .before .before .number .result) (c .before .before .before .before .before .number .ok), back32 (c .before .before .before .before .number2 .result) (c .before .before .before .before .number2 .ok))))
+    (λ c. order-fixed _ (seen (c .before .before .before .before)) (c .before .before .before .if1 .taken) (c .before .before .scale .ensures) (c .before .scale2 .ensures) (c .order-fixed .ensures))
     (λ c κs. search needs)
     (λ c κs. search needs)
     (λ c κs. search needs)
-    (λ c. let a = c .before .before .before .before .before .before .before .before .before .args in rw (order-by (a .op) (a .u) (a .v), ← c .before .before .before .before .before .before .before .before .kind .ensures, ← c .before .before .before .before .before .before .before .kind2 .ensures, c .before .before .before .before .if1 .left, c .before .before .before .if2 .taken) (cc (back64 (c .before .before .wide .result) (c .before .before .wide .ok), back64 (c .before .wide2 .result) (c .before .wide2 .ok), back32 (c .before .before .before .before .before .before .number .result) (c .before .before .before .before .before .before .number .ok), back32 (c .before .before .before .before .before .number2 .result) (c .before .before .before .before .before .number2 .ok))))
-    (λ c. let a = c .before .before .before .before .before .before .args in rw (order-by (a .op) (a .u) (a .v), ← c .before .before .before .before .before .kind .ensures, ← c .before .before .before .before .kind2 .ensures, c .before .if1 .left, c .if2 .left)))
+    (λ c. order-number _ (seen (c .before .before .before .before .before)) (c .before .before .before .before .if1 .left) (c .before .before .before .if2 .taken) (back64 _ (c .before .before .wide .ok) ∙ c .before .before .wide .ensures .is) (back64 _ (c .before .wide2 .ok) ∙ c .before .wide2 .ensures .is) (c .in-order .ensures))
+    (λ c. order-none _ (seen (c .before .before)) (c .before .if1 .left) (c .if2 .left)))

@@ -1,7 +1,7 @@
--- `cell::product_fixed` meets its contract.
+-- `cell::product_fixed` meets its contract: one law for each way out.
 -- Assumes nothing.
 use borrow.Author.Needs.{needs}
-use mathlib.Core.Path.{_≡_}
+use mathlib.Core.Path.{_≡_, refl, ap}
 use mathlib.Core.Bool.{true, false}
 use native.Mathlib.Omega.{arith}
 use borrow.Author.Tests.{le-leb, lt-leb, ne-eqb}
@@ -9,8 +9,10 @@ use lib.Dec.{eqb}
 use lib.IntN.{natAbs}
 use mir.Facts.{toZ-ofZ}
 use Rattle.cell.specs.Values.{outcomeOf}
-use Rattle.cell.specs.Apply.{productFixed}
+use Rattle.cell.specs.Apply.{cutFixed, productFixed}
+use Rattle.cell.specs.declared.Outcome.the-variants as O
 use Rattle.cell.proofs.Signed.{back64, not-zero}
+use Rattle.cell.proofs.Outcomes.{times-is, divide-is}
 use Rattle.cell.proofs.operators.product_fixed.Statement.{statement}
 use Rattle.cell.proofs.operators.product_fixed.Tie as tie
 
@@ -34,11 +36,11 @@ product-fixed-spec =
     (λ c κs. search needs)
     (λ c κs. search needs)
     (λ c κs. search needs)
-    (λ c. rw (le-leb (c .before .before .before .before .before .before .args .p) 9 (c .before .before .before .before .before .if1 .left), c .before .before .before .if2 .taken) (cc (back64 (c .before .product-cut .result) (c .before .product-cut .ok), toZ-ofZ (c .before .before .before .before .before .before .fits .m), toZ-ofZ (c .before .before .before .before .before .before .fits .n))))
+    (λ c. let a = c .before .before .before .before .before .before in rw (le-leb (a .args .p) 9 (c .before .before .before .before .before .if1 .left), c .before .before .before .if2 .taken, ← c .before .before .before .before .larger .ensures) (ap O.Is (times-is (cutFixed (a .args .p) (c .before .before .before .before .larger .result)) (c .cut-fixed .ensures) (back64 _ (c .before .product-cut .ok)) (c .before .product-cut .ensures) (c .before .before .smaller .ensures) (toZ-ofZ (a .fits .m)) (toZ-ofZ (a .fits .n)))))
     (λ c κs. search needs)
-    (λ c. rw (le-leb (c .before .before .before .before .before .args .p) 9 (c .before .before .before .before .if1 .left), ne-eqb (c .before .before .before .before .before .args .op) 3 (c .before .before .if2 .left), zero c))
+    (λ c. let a = c .before .before .before .before .before .args in rw (le-leb (a .p) 9 (c .before .before .before .before .if1 .left), ne-eqb (a .op) 3 (c .before .before .if2 .left), zero c))
     (λ c. search needs)
     (λ c. search needs)
     (λ c κs. let a = c .before .before .before .before .before in (omega arith, rw (toZ-ofZ (a .fits .n)) (not-zero (a .args .n) (nonzero c))))
     (λ c κs. search needs)
-    (λ c. rw (le-leb (c .before .before .before .before .before .before .before .args .p) 9 (c .before .before .before .before .before .before .if1 .left), ne-eqb (c .before .before .before .before .before .before .before .args .op) 3 (c .before .before .before .before .if2 .left), nonzero (c .before .before)) (cc (back64 (c .before .scaled-cut .result) (c .before .scaled-cut .ok), toZ-ofZ (c .before .before .before .before .before .before .before .fits .m), toZ-ofZ (c .before .before .before .before .before .before .before .fits .n)))))
+    (λ c. let a = c .before .before .before .before .before .before .before in rw (le-leb (a .args .p) 9 (c .before .before .before .before .before .before .if1 .left), ne-eqb (a .args .op) 3 (c .before .before .before .before .if2 .left), nonzero (c .before .before), ← c .before .before .before .before .before .larger .ensures) (ap O.Is (divide-is (cutFixed (a .args .p) (c .before .before .before .before .before .larger .result)) (c .cut-fixed2 .ensures) (back64 _ (c .before .scaled-cut .ok)) (c .before .scaled-cut .ensures) refl (toZ-ofZ (a .fits .m)) (toZ-ofZ (a .fits .n))))))

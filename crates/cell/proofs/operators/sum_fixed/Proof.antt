@@ -1,10 +1,14 @@
--- `cell::sum_fixed` meets its contract: the operands' bounds come with them, and the rest is congruence.
+-- `cell::sum_fixed` meets its contract: the operands brought to the larger scale.
 -- Assumes nothing.
 use borrow.Author.Needs.{needs}
+use mathlib.Core.Path.{refl, ap}
 use borrow.Author.Tests.{le-leb, lt-leb}
 use mir.Facts.{toZ-ofZ}
 use Rattle.cell.specs.Values.{outcomeOf}
+use Rattle.cell.specs.Apply.{cutFixed}
+use Rattle.cell.specs.declared.Outcome.the-variants as O
 use Rattle.cell.proofs.Signed.{back64}
+use Rattle.cell.proofs.Outcomes.{brought, total-is}
 use Rattle.cell.proofs.operators.sum_fixed.Statement.{statement}
 use Rattle.cell.proofs.operators.sum_fixed.Tie as tie
 
@@ -19,4 +23,4 @@ sum-fixed-spec =
     (λ c κs. search needs)
     (λ c κs. search needs)
     (λ c κs. search needs)
-    (λ c. rw (le-leb (c .before .before .before .before .before .before .args .p) 9 (c .before .before .before .before .before .if1 .left)) (cc (back64 (c .before .total .result) (c .before .total .ok), back64 (c .before .before .before .raised .result) (c .before .before .before .raised .ok), back64 (c .before .before .raised2 .result) (c .before .before .raised2 .ok), toZ-ofZ (c .before .before .before .before .before .before .fits .m), toZ-ofZ (c .before .before .before .before .before .before .fits .n)))))
+    (λ c. let a = c .before .before .before .before .before .before in rw (le-leb (a .args .p) 9 (c .before .before .before .before .before .if1 .left), ← c .before .before .before .before .larger .ensures) (ap O.Is (total-is (cutFixed (a .args .p) (c .before .before .before .before .larger .result)) (c .cut-fixed .ensures) (back64 _ (c .before .total .ok)) (a .args .op) (c .before .total .ensures) (brought (a .args .s) (back64 _ (c .before .before .before .raised .ok)) (c .before .before .before .raised .ensures .is) refl (toZ-ofZ (a .fits .m))) (brought (a .args .t) (back64 _ (c .before .before .raised2 .ok)) (c .before .before .raised2 .ensures .is) refl (toZ-ofZ (a .fits .n)))))))

@@ -1,9 +1,12 @@
 -- `cell::sum_interval` meets its contract.
 -- Assumes nothing.
 use borrow.Author.Needs.{needs}
+use mathlib.Core.Path.{_∙_}
 use native.Mathlib.Omega.{arith}
 use mir.Facts.{toZ-ofZ}
+use Rattle.cell.specs.Apply.{cutInterval}
 use Rattle.cell.proofs.Signed.{back64}
+use Rattle.cell.proofs.Outcomes.{total-is}
 use Rattle.cell.proofs.operators.sum_interval.Statement.{statement}
 use Rattle.cell.proofs.operators.sum_interval.Tie as tie
 
@@ -15,4 +18,4 @@ sum-interval-spec =
     (λ c κs. search needs)
     (λ c κs. rw (back64 (c .before .wide .result) (c .before .wide .ok), back64 (c .wide2 .result) (c .wide2 .ok)) (omega arith, omega arith))
     (λ c κs. search needs)
-    (λ c. cc (back64 (c .before .total .result) (c .before .total .ok), back64 (c .before .before .before .wide .result) (c .before .before .before .wide .ok), back64 (c .before .before .wide2 .result) (c .before .before .wide2 .ok), toZ-ofZ (c .before .before .before .before .fits .m), toZ-ofZ (c .before .before .before .before .fits .n))))
+    (λ c. total-is cutInterval (c .cut-interval .ensures) (back64 _ (c .before .total .ok)) (c .before .before .before .before .args .op) (c .before .total .ensures) (back64 _ (c .before .before .before .wide .ok) ∙ c .before .before .before .wide .ensures .is ∙ toZ-ofZ (c .before .before .before .before .fits .m)) (back64 _ (c .before .before .wide2 .ok) ∙ c .before .before .wide2 .ensures .is ∙ toZ-ofZ (c .before .before .before .before .fits .n))))

@@ -18,4 +18,6 @@ same-type-spec =
     (λ c κs. search needs)
     (λ c κs. search needs)
     (λ c κs. search needs)
-    (λ c. cc))
+    (λ c.
+    rw
+    (c .before .before .before .before .before .before .before .kind-of .ensures, c .before .before .before .before .before .before .kind-of2 .ensures, c .before .before .before .before .before .digits-of .ensures, c .before .before .before .before .digits-of2 .ensures, c .before .before .before .scale-of .ensures, c .before .before .scale-of2 .ensures, c .before .format-of .ensures, c .format-of2 .ensures)))
