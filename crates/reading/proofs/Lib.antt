@@ -3,8 +3,8 @@
 pub mod Lists
 pub mod Lattice
 pub mod Inversion
-pub mod Names
 pub mod WellTyped
+pub mod Names
 pub mod Scopes
 pub mod References
 pub mod Folds
@@ -12,6 +12,6 @@ pub mod Data
 pub mod Classes
 pub mod Select
 pub mod Whole
-pub mod Rules
+pub mod Files
 pub mod Main
 pub mod Samples

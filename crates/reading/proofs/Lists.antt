@@ -57,12 +57,6 @@ all-keep P (b ∷ bs) [] h = tt
 all-keep P (true ∷ bs) (x ∷ xs) h = (h .0, all-keep P bs xs (h .1))
 all-keep P (false ∷ bs) (x ∷ xs) h = all-keep P bs xs (h .1)
 
-pub all-nth : {A : Type 0} (P : A → Type 0) (xs : List A) (i : ℕ) (x : A) → All P xs → nth xs i ≡ done x → P x
-unfolding nth
-all-nth P [] i x h e = absurd (not-stuck e)
-all-nth P (y ∷ xs) zero x h e = subst P (done-inj e) (h .0)
-all-nth P (y ∷ xs) (suc i) x h e = all-nth P xs i x (h .1) e
-
 -- ---- two lists of one length
 
 pub all2-and : {A B : Type 0} (R : A → B → Type 0) (P : B → Type 0) (xs : List A) (ys : List B) → All2 R xs ys → All P ys → All2 (λ x y. R x y × P y) xs ys

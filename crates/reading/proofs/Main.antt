@@ -14,7 +14,8 @@ use Rattle.tree.specs.Select.{translated}
 use Rattle.run.specs.Answer.{runSelect}
 use Rattle.reading.specs.Reading.{answerByReading}
 use Rattle.reading.specs.Demands.{Accepted, RunsToItsEnd, OfDeclaredType, ExactlyWhatWasRead, BoundDominates, Promise}
-use Rattle.reading.proofs.Rules.{catalogue-rule, view-consts, store-good}
+use Rattle.reading.proofs.WellTyped.{catalogue-rule}
+use Rattle.reading.proofs.Files.{view-consts, store-good}
 use Rattle.reading.proofs.Whole.{promised}
 
 module _ {c v s : List ℕ} {tables : ℕ} {b : Block} {records : ℕ} {sel : Select} {tys : List Ty} (files : Accepted c v s tables b records sel tys) (k q : ℕ) where

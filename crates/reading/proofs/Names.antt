@@ -2,17 +2,19 @@
 -- Assumes nothing.
 use Prim.Native.Nat.{ℕ, _+_}
 use mathlib.Core.Path.{_≡_, refl, subst}
-use mathlib.Core.Bool.{Bool, true, false, cond, _&&_, _||_}
+use mathlib.Core.Bool.{cond, _&&_, _||_}
 use mathlib.Core.List.{List, [], _∷_}
 use native.Mathlib.Omega.{arith}
 use lib.Dec.{eqb}
-use Rattle.cell.specs.Res.{Res, stuck, done, nth}
-use Rattle.catalogue.specs.Tables.{Table, Column, TabRef, later, tableNamed}
+use Rattle.cell.specs.Res.{done, nth}
+use Rattle.catalogue.specs.Tables.{Table, Column, TabRef}
+use Rattle.catalogue.proofs.Listed.{named-is}
 use Rattle.store.specs.Rows.{All}
 use Rattle.view.specs.Ast.{TabName}
 use Rattle.scope.specs.Scopes.{Open, block, local, Hit, column, bound, Only, one, onlyOf, inCols, inTable, inTabs, inScope, nearest, find}
-use Rattle.scope.specs.Blocks.{Tabs, all, missing, before, foundAt, tablesNamed}
-use Rattle.reading.proofs.Lists.{not-stuck, done-inj, all-imp, all-append, all-cond, from, from-cons, from-next}
+use Rattle.scope.specs.Blocks.{all, tablesNamed}
+use Rattle.reading.proofs.Lists.{all-imp, all-append, all-cond, from, from-cons, from-next}
+use Rattle.reading.proofs.WellTyped.{named-elim}
 
 -- ---- matches
 
@@ -91,24 +93,7 @@ found-stands name q Γ h e = stands-from name q Γ 0 Γ refl h e
 abbrev pub TabsOk : List Table → List TabRef → Type 0
 TabsOk cat ts = All (λ t. nth cat (t .num) ≡ done (t .table)) ts
 
-named-ok : (name : ℕ) (cat : List Table) (t : TabRef) → tableNamed name cat ≡ done t → nth cat (t .num) ≡ done (t .table)
-unfolding tableNamed later nth
-named-ok name [] t e = absurd (not-stuck e)
-named-ok name (u ∷ cat) t e = go (eqb (u .tname) name) (tableNamed name cat) (named-ok name cat) e
-  where
-    go : (z : Bool) (r : Res TabRef) → ((t : TabRef) → r ≡ done t → nth cat (t .num) ≡ done (t .table)) →
-        cond z (done (record { num = 0; table = u })) (later r) ≡ done t → nth (u ∷ cat) (t .num) ≡ done (t .table)
-    go true r ih e = rw (← done-inj e)
-    go false stuck ih e = absurd (not-stuck e)
-    go false (done s) ih e = rw (← done-inj e) (ih s refl)
-
 pub tables-ok : (cat : List Table) (names : List TabName) (ts : List TabRef) → tablesNamed cat names ≡ all ts → TabsOk cat ts
-unfolding tablesNamed foundAt before
+unfolding tablesNamed
 tables-ok cat [] ts e = let p : ts ≡ [] = cc in rw p tt
-tables-ok cat (x ∷ xs) ts e = go (tableNamed (x .name) cat) (tablesNamed cat xs) (named-ok (x .name) cat) (tables-ok cat xs) e
-  where
-    go : (r : Res TabRef) (rest : Tabs) → ((t : TabRef) → r ≡ done t → nth cat (t .num) ≡ done (t .table)) →
-        ((us : List TabRef) → rest ≡ all us → TabsOk cat us) → foundAt (x .at) r rest ≡ all ts → TabsOk cat ts
-    go stuck rest h k e = let z : _≡_ {A = ℕ} 0 1 = cc in absurd (omega arith)
-    go (done t) (all us) h k e = let p : ts ≡ t ∷ us = cc in rw p (h t refl, k us refl)
-    go (done t) (missing p) h k e = let z : _≡_ {A = ℕ} 0 1 = cc in absurd (omega arith)
+tables-ok cat (x ∷ xs) ts e = named-elim cat x xs ts e λ t us f g p. rw p (named-is (x .name) cat t f .0, tables-ok cat xs us g)

@@ -19,12 +19,13 @@ use Rattle.cell.specs.declared.Value.{Value}
 use Rattle.cell.specs.declared.Cell.{Cell}
 use Rattle.catalogue.specs.Tables.{Table, Column, TabRef}
 use Rattle.store.specs.Rows.{Row, All, All2, CellOk, RowOk}
+use Rattle.store.proofs.Lists.{all-at}
 use Rattle.scope.specs.Scopes.{block, local, column}
 use Rattle.tree.specs.Trans.{nums}
 use Rattle.run.specs.Run as machine
 use Rattle.run.specs.Run.{rowsFor}
 use Rattle.reading.specs.Reading.{Frame, rows, known, scopeOf, asRows, asKnown, rowIn, cellIn, knownIn, rowsOver}
-use Rattle.reading.proofs.Lists.{not-stuck, all-nth, nth-all2, product-all}
+use Rattle.reading.proofs.Lists.{not-stuck, nth-all2, product-all}
 use Rattle.reading.proofs.Names.{TabsOk, Stands}
 use Rattle.reading.proofs.WellTyped.{TablesRule, ScopesRule}
 
@@ -105,7 +106,7 @@ module _ {P : Info → List ℕ → Option ℕ → Type 0} where
   cell-found {ρ = ρ} {σ = σ} m a b c t k s =
       let (r, p, q, ok, e) = row-found m a b c t k s in
       let (x, f, g) = nth-all2 CellOk (t .cols) (r .cells) c k (ok .0 .1) e in
-      (x, rw (p, f), rw (q, f), g, all-nth (λ y. So (ltb (y .class) 65536)) (r .cells) c x (ok .1) f)
+      (x, rw (p, f), rw (q, f), g, all-at (λ y. So (ltb (y .class) 65536)) (r .cells) (ok .1) c x f)
 
 -- ---- the tables of a block are in the store, and the rows of the product are accepted
 

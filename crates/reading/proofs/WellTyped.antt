@@ -1,24 +1,32 @@
 -- Types are in rule: over a catalogue and open scopes whose types are in rule, and constants that are of their types, so is the type of whatever is resolved.
 -- Assumes nothing.
-use Prim.Native.Nat.{ℕ, suc, _+_}
-use mathlib.Core.Path.{_≡_, refl, subst}
+use Prim.Native.Nat.{ℕ, zero, suc, _+_, _<_}
+use mathlib.Core.Path.{_≡_, refl, sym, subst}
 use mathlib.Core.Bool.{Bool, true, false, cond, _&&_, _||_}
 use mathlib.Core.List.{List, [], _∷_, _++_, map}
 use native.Mathlib.Omega.{arith}
 use lib.Dec.{eqb}
-use Rattle.cell.specs.Res.{Res, stuck, done}
+use lib.ListN.{getD}
+use Rattle.cell.specs.Res.{Res, stuck, done, nth}
 use Rattle.cell.specs.Types.{inRule}
 use Rattle.cell.specs.Values.{HasTy}
 use Rattle.cell.specs.declared.Type.{«Type» as Ty}
 use Rattle.cell.proofs.Typing.{binop-in-rule, limb-in-rule}
-use Rattle.catalogue.specs.Tables.{Table, Column, TabRef, later, tableNamed}
-use Rattle.view.specs.Ast.{TabName, Exp}
+use Rattle.catalogue.specs.Fault.{checkOf}
+use Rattle.catalogue.specs.Tables.{Table, Column, TabRef, tableNamed, catalogueOf}
+use Rattle.catalogue.specs.declared.Verdict.the-variants.{Tables}
+use Rattle.catalogue.proofs.Meaning.{accepted}
+use Rattle.catalogue.proofs.Listed.{named-is, table-stands, column-stands, column-in-rule}
+use Rattle.view.specs.Ast.{TabName, Exp, ok}
 use Rattle.view.specs.Ast as ast
+use Rattle.view.specs.Parse.{parseValue}
+use Rattle.view.proofs.Constants.{typed-at, ruled-at}
+use Rattle.view.proofs.Induction.{parse-ind}
 use Rattle.scope.specs.Scopes.{Open, block, local, Hit, column, bound, Only, one, onlyOf, inCols, inTable, inTabs, inScope, nearest, find}
 use Rattle.scope.specs.Blocks.{Tabs, all, missing, before, foundAt, tablesNamed, opened}
 use Rattle.resolve.specs.Expr.{Expr}
 use Rattle.resolve.specs.Resolve.{good, resolve}
-use Rattle.reading.proofs.Inversion.{const-elim, binop-elim, neg-elim, if-elim, exists-elim, single-elim, col-elim, classof-elim, let-elim}
+use Rattle.resolve.proofs.Inversion.{const-good, bin-good, neg-good, if-good, exists-good, single-good, let-good, ColGood, of-column, of-local, col-good, classof-good}
 
 -- ---- types in rule: of columns, tables, open scopes, matches
 
@@ -103,52 +111,88 @@ found-rule name q a (s ∷ Γ) h r e =
 
 -- ---- the tables of a block are the catalogue's
 
-named-rule : (name : ℕ) (cat : List Table) (t : TabRef) → TablesRule cat → tableNamed name cat ≡ done t → ColumnsRule (t .table .cols)
-unfolding tableNamed later
-named-rule name [] t r e = let z : _≡_ {A = ℕ} 0 1 = cc in absurd (omega arith)
-named-rule name (u ∷ cat) t r e = go (eqb (u .tname) name) (tableNamed name cat) (λ t. named-rule name cat t (r .1)) e
+tables-at : (ts : List Table) (j : ℕ) (t : Table) → TablesRule ts → nth ts j ≡ done t → ColumnsRule (t .cols)
+unfolding nth
+tables-at [] j t r e = let z : _≡_ {A = ℕ} 0 1 = cc in absurd (omega arith)
+tables-at (u ∷ ts) zero t r e = let p : t ≡ u = cc in rw p (r .0)
+tables-at (u ∷ ts) (suc j) t r e = tables-at ts j t (r .1) e
+
+-- the first table's name is found, and so are the others
+pub named-elim : {G : Type 0} (cat : List Table) (x : TabName) (xs : List TabName) (ts : List TabRef) → tablesNamed cat (x ∷ xs) ≡ all ts →
+    ((t : TabRef) (us : List TabRef) → tableNamed (x .name) cat ≡ done t → tablesNamed cat xs ≡ all us → ts ≡ t ∷ us → G) → G
+unfolding tablesNamed foundAt before
+named-elim {G} cat x xs ts e k = go (tableNamed (x .name) cat) (tablesNamed cat xs) refl refl e
   where
-    go : (z : Bool) (o : Res TabRef) → ((t : TabRef) → o ≡ done t → ColumnsRule (t .table .cols)) →
-        cond z (done (record { num = 0; table = u })) (later o) ≡ done t → ColumnsRule (t .table .cols)
-    go true o ih e = let p : t ≡ record { num = 0; table = u } = cc in rw p (r .0)
-    go false stuck ih e = let z : _≡_ {A = ℕ} 0 1 = cc in absurd (omega arith)
-    go false (done s) ih e = let p : t ≡ record { num = suc (s .num); table = s .table } = cc in rw p (ih s refl)
+    go : (o : Res TabRef) (rest : Tabs) → tableNamed (x .name) cat ≡ o → tablesNamed cat xs ≡ rest → foundAt (x .at) o rest ≡ all ts → G
+    go stuck rest f g e = let z : _≡_ {A = ℕ} 0 1 = cc in absurd (omega arith)
+    go (done t) (all us) f g e = k t us f g (cc)
+    go (done t) (missing p) f g e = let z : _≡_ {A = ℕ} 0 1 = cc in absurd (omega arith)
 
 pub tables-rule : (cat : List Table) (names : List TabName) (ts : List TabRef) → TablesRule cat → tablesNamed cat names ≡ all ts →
     TablesRule (map (λ t. t .table) ts)
-unfolding tablesNamed foundAt before
+unfolding tablesNamed
 tables-rule cat [] ts r e = let p : ts ≡ [] = cc in rw p tt
-tables-rule cat (x ∷ xs) ts r e = go (tableNamed (x .name) cat) (tablesNamed cat xs) (λ t. named-rule (x .name) cat t r) (λ us. tables-rule cat xs us r) e
-  where
-    go : (o : Res TabRef) (rest : Tabs) → ((t : TabRef) → o ≡ done t → ColumnsRule (t .table .cols)) →
-        ((us : List TabRef) → rest ≡ all us → TablesRule (map (λ t. t .table) us)) → foundAt (x .at) o rest ≡ all ts →
-        TablesRule (map (λ t. t .table) ts)
-    go stuck rest h k e = let z : _≡_ {A = ℕ} 0 1 = cc in absurd (omega arith)
-    go (done t) (all us) h k e = let p : ts ≡ t ∷ us = cc in rw p (h t refl, k us refl)
-    go (done t) (missing p) h k e = let z : _≡_ {A = ℕ} 0 1 = cc in absurd (omega arith)
+tables-rule cat (x ∷ xs) ts r e =
+    named-elim cat x xs ts e λ t us f g p.
+    rw p (tables-at cat (t .num) (t .table) r (named-is (x .name) cat t f .0), tables-rule cat xs us r g)
 
 -- ---- THE LAW
 
 pub well-typed : (cat : List Table) → TablesRule cat → (e : Exp) → ConstsOk e → (Γ : List Open) → ScopesRule Γ → (X : Expr) (U : Ty) →
     resolve cat Γ e ≡ good X U → inRule U ≡ true
 unfolding ConstsOk inRule
-well-typed cat r (ast.Exp.const at t v) h Γ g X U e = const-elim cat Γ X U at t v e λ p q. rw q (h .1)
+well-typed cat r (ast.Exp.const at t v) h Γ g X U e = rw (const-good cat Γ X U at t v e .type-is) (h .1)
 well-typed cat r (ast.Exp.binop at op a b) h Γ g X U e =
-    binop-elim cat Γ X U at op a b e λ x s y t e₁ e₂ e₃ p.
-    binop-in-rule op s t U e₃ (well-typed cat r a (h .0) Γ g x s e₁) (well-typed cat r b (h .1) Γ g y t e₂)
-well-typed cat r (ast.Exp.neg at a) h Γ g X U e = neg-elim cat Γ X U at a e λ x e₁ p q. rw q
+    let w = bin-good cat Γ X U at op a b e in
+    binop-in-rule op (w .s) (w .u) U (w .rule) (well-typed cat r a (h .0) Γ g (w .y) (w .s) (w .left)) (well-typed cat r b (h .1) Γ g (w .z) (w .u) (w .right))
+well-typed cat r (ast.Exp.neg at a) h Γ g X U e = rw (neg-good cat Γ X U at a e .type-is)
 well-typed cat r (ast.Exp.if at c a b) h Γ g X U e =
-    if-elim cat Γ X U at c a b e λ x y z t u e₁ e₂ e₃ e₄ p.
-    limb-in-rule t u U e₄ (well-typed cat r a (h .1) Γ g y t e₂) (well-typed cat r b (h .2) Γ g z u e₃)
-well-typed cat r (ast.Exp.exists at names w) h Γ g X U e = exists-elim cat Γ X U at names w e λ ts x e₁ e₂ p q. rw q
-well-typed cat r (ast.Exp.single at names w v) h Γ g X U e =
-    single-elim cat Γ X U at names w v e λ ts x y e₁ e₂ e₃ p.
-    well-typed cat r v (h .1) (opened ts ∷ Γ) (tables-rule cat names ts r e₁, g) y U e₃
-well-typed cat r (ast.Exp.col at name q) h Γ g X U e =
-    col-elim cat Γ X U at name q e
-    (λ a b c t j e₁ p k. rw k (found-rule name q 0 Γ (column a b c t j) g e₁))
-    (λ a e₁ p. found-rule name q 0 Γ (bound a U) g e₁)
-well-typed cat r (ast.Exp.classof at name q) h Γ g X U e = classof-elim cat Γ X U at name q e λ a b c t j e₁ p k. rw k
+    let w = if-good cat Γ X U at c a b e in
+    limb-in-rule (w .s) (w .u) U (w .rule) (well-typed cat r a (h .1) Γ g (w .y) (w .s) (w .left)) (well-typed cat r b (h .2) Γ g (w .z) (w .u) (w .right))
+well-typed cat r (ast.Exp.exists at names a) h Γ g X U e = rw (exists-good cat Γ X U at names a e .type-is)
+well-typed cat r (ast.Exp.single at names a v) h Γ g X U e =
+    let w = single-good cat Γ X U at names a v e in
+    well-typed cat r v (h .1) (opened (w .tabs) ∷ Γ) (tables-rule cat names (w .tabs) r (w .there), g) (w .z) U (w .value)
+well-typed cat r (ast.Exp.col at name q) h Γ g X U e = go (col-good cat Γ X U at name q e)
+  where
+    go : ColGood (find name q 0 Γ) X U → inRule U ≡ true
+    go (of-column a b c t j f p k) = rw k (found-rule name q 0 Γ (column a b c t j) g f)
+    go (of-local a f p) = found-rule name q 0 Γ (bound a U) g f
+well-typed cat r (ast.Exp.classof at name q) h Γ g X U e = rw (classof-good cat Γ X U at name q e .type-is)
 well-typed cat r (ast.Exp.letin at name v b) h Γ g X U e =
-    let-elim cat Γ X U at name v b e λ x s y e₁ e₂ p.
-    well-typed cat r b (h .1) (local name s ∷ Γ) (well-typed cat r v (h .0) Γ g x s e₁, g) y U e₂
+    let w = let-good cat Γ X U at name v b e in
+    well-typed cat r b (h .1) (local name (w .s) ∷ Γ) (well-typed cat r v (h .0) Γ g (w .y) (w .s) (w .value), g) (w .z) U (w .body)
+
+-- ---- what accepted files say keeps these rules
+
+columns-all : (ks : List Column) → ((j : ℕ) (k : Column) → nth ks j ≡ done k → inRule (k .ty) ≡ true) → ColumnsRule ks
+unfolding nth
+columns-all [] h = tt
+columns-all (k ∷ ks) h = (h 0 k refl, columns-all ks (λ j. h (suc j)))
+
+tables-all : (ts : List Table) → ((j : ℕ) (t : Table) → nth ts j ≡ done t → ColumnsRule (t .cols)) → TablesRule ts
+unfolding nth
+tables-all [] h = tt
+tables-all (t ∷ ts) h = (h 0 t refl, tables-all ts (λ j. h (suc j)))
+
+-- an accepted catalogue's types are in rule
+pub catalogue-rule : (c : List ℕ) (tables : ℕ) → checkOf c ≡ Tables tables → TablesRule (catalogueOf c)
+catalogue-rule c tables e =
+    let a = accepted c tables e in
+    tables-all (catalogueOf c) (λ j t f.
+    columns-all (t .cols) (λ i k g. column-in-rule c k (column-stands c tables a t (table-stands c tables a j t f) i k g)))
+
+-- the constants of a value that was read are of their types
+pub value-consts : (v : List ℕ) → ((i : ℕ) → getD v i 0 < 256) → (n d at : ℕ) {e : Exp} {k : ℕ} → parseValue v n d at ≡ ok e k → ConstsOk e
+unfolding ConstsOk
+value-consts v h n =
+    parse-ind v n (λ d at e k. ConstsOk e)
+    (λ d at t x z l g. (typed-at v at (sym g) refl h, ruled-at v at (sym g) refl))
+    (λ d at name q z l g. tt)
+    (λ d at name q z l g. tt)
+    (λ d at e k z l g p. p)
+    (λ d at op a b m k z l g p q. (p, q))
+    (λ d at name a b m k z l g p q. (p, q))
+    (λ d at c a b m j k z l g p q r. (p, q, r))
+    (λ d at a w k z l g f p. p)
+    (λ d at a w e m k z l g f p q. (p, q))

@@ -1,7 +1,7 @@
 -- The promise over lists: of a view that is resolved over a catalogue in rule, with constants of their types, and rows that keep their rules.
 -- Assumes nothing.
 use Prim.Native.Nat.{ℕ}
-use mathlib.Core.Path.{_≡_, refl, sym, subst}
+use mathlib.Core.Path.{_≡_, refl}
 use mathlib.Core.Bool.{Bool, true, false, cond}
 use mathlib.Core.List.{List, [], _∷_, map}
 use Rattle.class.specs.Class.{lubAll}
@@ -22,7 +22,8 @@ use Rattle.run.specs.Answer.{Shown, cellFor, rowAt, runSelect}
 use Rattle.reading.specs.Reading.{rows, tabsOut, rowsOver, kept, eval, reads, answerByReading}
 use Rattle.reading.specs.Demands.{RowRuns, Promise}
 use Rattle.reading.proofs.Lists.{bind-done, all-imp, mapRes-ok}
-use Rattle.reading.proofs.Inversion.{Values, view-elim}
+use Rattle.resolve.proofs.Inversion.{view-good}
+use Rattle.reading.proofs.Inversion.{Values, values-resolved}
 use Rattle.reading.proofs.Names.{tables-ok}
 use Rattle.reading.proofs.WellTyped.{TablesRule, ConstsOk, tables-rule}
 use Rattle.reading.proofs.Scopes.{RowGood, StoreGood, tablesOf, block-ok}
@@ -112,5 +113,6 @@ module _ (cat : List Table) (st : List (List Row)) (accepted : StoreGood cat st)
 pub promised : (cat : List Table) (st : List (List Row)) → StoreGood cat st → TablesRule cat → (b : Block) → BlockOk b → (sel : Select) (tys : List Ty) →
     resolveView cat b ≡ select sel tys → (k q : ℕ) → Promise cat st b sel tys k q
 promised cat st accepted ruled b consts sel tys e k q =
-    view-elim cat b sel tys e λ ts x ys named tested valued p.
-    subst (λ s. Promise cat st b s tys k q) (sym p) (chosen-promised cat st accepted ruled b consts ts x ys tys named tested valued k q)
+    let g = view-good cat b sel tys e in
+    chosen-promised cat st accepted ruled b consts (sel .from) (sel .test) (sel .values) tys (g .there) (g .test)
+    (values-resolved cat (opened (sel .from) ∷ []) (b .values) (sel .values) tys (g .values)) k q

@@ -30,9 +30,9 @@ use Rattle.run.specs.Answer.{runSelect}
 use Rattle.reading.specs.Reading as reading
 use Rattle.reading.specs.Reading.{tabsIn, rowsOver, reads, answerByReading}
 
--- the elements of a slice of bytes
-pub record Bytes (s : List ℕ) : Type 0 where
-  pub below : (i : ℕ) → getD s i 0 < 256
+-- a slice of bytes: each is below 256 (past the end counts as 0)
+abbrev pub Bytes : List ℕ → Type 0
+Bytes s = (i : ℕ) → getD s i 0 < 256
 
 -- THE FILES ARE ACCEPTED: the catalogue c, with so many tables; the view v, whose tree is b, of so many records, resolved to SELECT and the
 -- declared types of its columns; the store s

@@ -397,3 +397,13 @@ pub typed-known : (k : ℕ) (cat : List Table) (Γ : List Open) (is : List Info)
     → P ≡ ok e next → typedBy k cat Γ is P ≡ typed.Is h → GoodAt k cat Γ is e next h
 unfolding typedBy
 typed-known k cat Γ is P e next h f g = good-at k cat Γ is e next h (resolve cat Γ e) refl (rw f at g)
+
+bad-at : (k : ℕ) (is : List Info) (next i p : ℕ) (o : Out) → typedAt k is next o ≡ typed.Refused i p → o ≡ bad i p
+unfolding typedAt
+bad-at k is next i p (good x t) g = absurd (let z : _≡_ {A = ℕ} 0 1 = cc in omega arith)
+bad-at k is next i p (bad j q) g = let a : j ≡ i = cc in let b : q ≡ p = cc in cc
+
+pub typed-refused : (k : ℕ) (cat : List Table) (Γ : List Open) (is : List Info) (P : Parsed Exp) (e : Exp) (next i p : ℕ)
+    → P ≡ ok e next → typedBy k cat Γ is P ≡ typed.Refused i p → resolve cat Γ e ≡ bad i p
+unfolding typedBy
+typed-refused k cat Γ is P e next i p f g = bad-at k is next i p (resolve cat Γ e) (rw f at g)

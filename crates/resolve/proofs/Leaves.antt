@@ -41,7 +41,7 @@ module _ (i : Info) (n : ℕ) where
   unfolding stopped
   weighed-is r e = λ j. record { info = i; size = e j }
 
-stopped-alike : (x y : Weighed) → Alike x y → stopped x ≡ stopped y
+pub stopped-alike : (x y : Weighed) → Alike x y → stopped x ≡ stopped y
 unfolding stopped
 stopped-alike x y e = λ j. record { info = e .info j; size = e .size j }
 

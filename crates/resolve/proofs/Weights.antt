@@ -19,7 +19,7 @@ use Rattle.resolve.specs.Expr as expr
 use Rattle.resolve.specs.Resolve.{brought}
 use Rattle.resolve.specs.Infos.{tableClass, joinAllI, blockI, classInfo}
 use Rattle.resolve.specs.Sizes.{sizeD, sizedI, weighed, joinW, joinsW, joinAllW, choiceW, bindSize, letW, rowsW, blockW, weigh, capped}
-use Rattle.resolve.specs.Steps.{classOf, knownBy, leafK, twoK, notK, broughtK, ifK, letK, existsK, singleK}
+use Rattle.resolve.specs.Steps.{aggW, classOf, knownBy, leafK, twoK, notK, broughtK, ifK, letK, existsK, singleK}
 use Rattle.resolve.specs.Typed.{knownOf}
 use Rattle.resolve.specs.declared.Weighed.{Weighed}
 use Rattle.resolve.specs.declared.Known.{Known}
@@ -121,11 +121,11 @@ pub alike-trans : (x y z : Weighed) → Alike x y → Alike y z → Alike x z
 alike-trans x y z e f = record { info = e .info ∙ f .info; size = e .size ∙ f .size }
 
 -- two lists of weights alike, one by one
-data AllAlike : List Weighed → List Weighed → Type 0 where
+pub data AllAlike : List Weighed → List Weighed → Type 0 where
   none : AllAlike [] []
   also : {x y : Weighed} {xs ys : List Weighed} → Alike x y → AllAlike xs ys → AllAlike (x ∷ xs) (y ∷ ys)
 
-joins-alike : (x x2 : Weighed) {xs ys : List Weighed} → Alike x x2 → AllAlike xs ys → Alike (joinsW x xs) (joinsW x2 ys)
+pub joins-alike : (x x2 : Weighed) {xs ys : List Weighed} → Alike x x2 → AllAlike xs ys → Alike (joinsW x xs) (joinsW x2 ys)
 unfolding joinsW
 joins-alike x x2 e none = e
 joins-alike x x2 e (also {x = y} {y = z} f g) = joins-alike (joinW x y) (joinW x2 z) (join-alike x x2 y z e f) g
@@ -135,25 +135,25 @@ unfolding rowsW
 rows-also [] f = f
 rows-also (t ∷ ts) f = also (alike-refl _) (rows-also ts f)
 
+pub all-refl : (xs : List Weighed) → AllAlike xs xs
+all-refl [] = none
+all-refl (x ∷ xs) = also (alike-refl x) (all-refl xs)
+
 all-alike : {xs ys : List Weighed} → AllAlike xs ys → Alike (joinAllW xs) (joinAllW ys)
 unfolding joinAllW
 all-alike none = alike-refl _
 all-alike (also {x = x} {y = y} e f) = joins-alike x y e f
 
--- AGG over a row's weight, joined with the tables' classes
-unfoldable pub aggW : List TabRef → Weighed → Weighed
-aggW ts w = joinW (weighed (Bound (boundOf (w .info))) (1 + (length ts + w .size))) (weighed (Fixed (tableClass ts)) 1)
-
-pub agg-alike : (ts : List TabRef) (x y : Weighed) → Alike x y → Alike (aggW ts x) (aggW ts y)
+pub agg-alike : (m k : ℕ) (x y : Weighed) → Alike x y → Alike (aggW m k x) (aggW m k y)
 unfolding aggW
-agg-alike ts x y e =
+agg-alike m k x y e =
     join-alike _ _ _ _
-    (weighed-alike (Bound (boundOf (x .info))) (Bound (boundOf (y .info))) (1 + (length ts + x .size)) (1 + (length ts + y .size)) (ap (λ (i : Info). Bound (boundOf i)) (e .info)) (one-capped (length ts) (length ts) (x .size) (y .size) refl (e .size)))
+    (weighed-alike (Bound (boundOf (x .info))) (Bound (boundOf (y .info))) (1 + (m + x .size)) (1 + (m + y .size)) (ap (λ (i : Info). Bound (boundOf i)) (e .info)) (one-capped m m (x .size) (y .size) refl (e .size)))
     (alike-refl _)
 
 block-alike : (ts : List TabRef) (xs ys : List Weighed) → AllAlike xs ys → Alike (blockW ts xs) (blockW ts ys)
 unfolding blockW aggW
-block-alike ts xs ys f = agg-alike ts (joinAllW (rowsW ts ++ xs)) (joinAllW (rowsW ts ++ ys)) (all-alike (rows-also ts f))
+block-alike ts xs ys f = agg-alike (length ts) (tableClass ts) (joinAllW (rowsW ts ++ xs)) (joinAllW (rowsW ts ++ ys)) (all-alike (rows-also ts f))
 
 -- WHAT IS KNOWN, by size and class.
 pub known-alike : (t : Ty) (next m n : ℕ) (x y : Weighed) → capped m ≡ capped n → Alike x y → knownBy t next m x ≡ knownBy t next n y

@@ -4,3 +4,4 @@ pub mod Infos
 pub mod Sizes
 pub mod Typed
 pub mod Steps
+pub mod Claims

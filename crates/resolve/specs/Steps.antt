@@ -5,8 +5,9 @@ use mathlib.Core.Bool.{Bool, true, false, cond}
 use mathlib.Core.List.{List, [], _∷_, map}
 use lib.ListN.{length}
 use lib.Dec.{eqb}
+use Rattle.class.specs.Info.{boundOf}
 use Rattle.class.specs.declared.Info.{Info}
-use Rattle.class.specs.declared.Info.the-variants.{Fixed}
+use Rattle.class.specs.declared.Info.the-variants.{Fixed, Bound}
 use Rattle.cell.specs.Res.{Res, stuck, done}
 use Rattle.cell.specs.Types.{kindOf, binopType, limbType, sameType}
 use Rattle.cell.specs.declared.Type.{«Type» as Ty}
@@ -61,6 +62,14 @@ unfoldable pub singleK : List TabRef → Known → Known → Known
 singleK ts x y =
     knownBy (y .ty) (y .next) (1 + (length ts + (x .values + y .values)))
     (blockW ts (classOf x ∷ choiceW (x .values) (classOf y) (weighed (Fixed 0) 1) ∷ []))
+
+-- AGG over what is read at one row, of m tables, joined with the tables' class
+unfoldable pub aggW : ℕ → ℕ → Weighed → Weighed
+aggW m k w = joinW (weighed (Bound (boundOf (w .info))) (1 + (m + w .size))) (weighed (Fixed k) 1)
+
+-- a block's tables as the walk knows them: their numbers don't matter to what is known
+unfoldable pub refsTo : List Table → List TabRef
+refsTo us = map (λ u. record { num = 0; table = u }) us
 
 -- a type rule, and a condition: 9 at the record where it is broken
 unfoldable pub ruledT : ℕ → Res Ty → (Ty → Known) → Typed

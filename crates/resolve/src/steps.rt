@@ -15,7 +15,7 @@ fn cap(n: usize) -> usize
     if n < 8191 { n } else { 8191 }
 }
 
-fn plus(m: usize, n: usize) -> usize
+pub fn plus(m: usize, n: usize) -> usize
     ensures { λ r. ⌜ r ≡ capped (m + n) ⌝ }
 {
     cap(cap(m) + cap(n))
@@ -31,7 +31,7 @@ fn class_size(i: class::Info, n: usize) -> usize
     }
 }
 
-fn weigh(i: class::Info, n: usize) -> Weighed
+pub fn weigh(i: class::Info, n: usize) -> Weighed
     ensures { λ r. ⌜ r ≡ stopped (weighed i n) ⌝ }
 {
     Weighed {
@@ -41,7 +41,7 @@ fn weigh(i: class::Info, n: usize) -> Weighed
 }
 
 // LUB of both, or one fixed class.
-fn joined(x: Weighed, y: Weighed) -> Weighed
+pub fn joined(x: Weighed, y: Weighed) -> Weighed
     ensures { λ r. ⌜ r ≡ stopped (joinW x y) ⌝ }
 {
     let i = x.info;
@@ -50,7 +50,7 @@ fn joined(x: Weighed, y: Weighed) -> Weighed
 }
 
 // A choice under a data tree of d records.
-fn chosen(d: usize, x: Weighed, y: Weighed) -> Weighed
+pub fn chosen(d: usize, x: Weighed, y: Weighed) -> Weighed
     ensures { λ r. ⌜ r ≡ stopped (choiceW d x y) ⌝ }
 {
     let i = x.info;
@@ -77,7 +77,7 @@ fn bound(d: usize, x: Weighed, y: Weighed) -> Weighed
     weigh(j, bind_size(i, x.size, d, y.size))
 }
 
-fn class_of(x: Known) -> Weighed
+pub fn class_of(x: Known) -> Weighed
     ensures { λ r. ⌜ r ≡ classOf x ⌝ }
 {
     let i = x.info;
@@ -87,7 +87,7 @@ fn class_of(x: Known) -> Weighed
     }
 }
 
-fn made(ty: cell::Type, next: usize, n: usize, w: Weighed) -> Known
+pub fn made(ty: cell::Type, next: usize, n: usize, w: Weighed) -> Known
     ensures { λ r. ⌜ r ≡ knownBy ty next n w ⌝ }
 {
     let i = w.info;

@@ -3,7 +3,7 @@
 use Prim.Native.Nat.{ℕ, zero, suc, _+_, _-_, _*_, _<_, _≤_, min}
 use mathlib.Core.Path.{_≡_, refl, sym, ap, _∙_}
 use mathlib.Core.Bool.{Bool, true, false, cond}
-use mathlib.Core.List.{List, map}
+use mathlib.Core.List.{List, [], _∷_, map}
 use native.Mathlib.Omega.{arith}
 use borrow.Author.Needs.{needs}
 use borrow.Author.Tests.{eqb-true}
@@ -15,9 +15,10 @@ use Rattle.class.specs.Class.{lubOf, lubAll}
 use Rattle.class.specs.Info.{infoBy}
 use Rattle.class.specs.declared.Info.{Info}
 use Rattle.class.specs.declared.Info.the-variants.{Fixed}
-use Rattle.catalogue.specs.Tables.{Table, tableAt}
+use Rattle.catalogue.specs.Tables.{Table, TabRef, tableAt}
 use Rattle.scope.specs.Scopes.{block, local}
 use Rattle.scope.specs.Table.{tabsAt, openOf}
+use Rattle.scope.specs.Blocks.{opened}
 use Rattle.scope.specs.Entry.{tablesIn, rowsOf, classesOf, Among}
 use Rattle.scope.specs.declared.Scope.{Scope}
 
@@ -96,3 +97,17 @@ module _ (c : List ℕ) (n : ℕ) (s : Scope) where
     lub-done h = let e : j ≡ 0 = omega arith in x ∙ rw e
 
 pub ruleset blocks = (table-room, row-here, row-past, class-here, class-past, lub-begin, lub-again, lub-done, needs)
+
+-- the same of the tables that a block opens
+module _ (c : List ℕ) (n : ℕ) (s : Scope) (ts : List TabRef) (e : openOf c n s ≡ opened ts) where
+  fields : {A : Type 0} (f : Table → A) (us : List TabRef) → map f (map (λ t. t .table) us) ≡ map (λ t. f (t .table)) us
+  fields f [] = refl
+  fields f (u ∷ us) = ap (λ l. f (u .table) ∷ l) (fields f us)
+
+  pub rows-opened : rowsOf (tablesIn (openOf c n s)) ≡ map (λ t. t .table .row) ts
+  unfolding tablesIn
+  rows-opened = rw e (fields (λ t. t .row) ts)
+
+  pub classes-opened : classesOf (tablesIn (openOf c n s)) ≡ map (λ t. t .table .tclass) ts
+  unfolding tablesIn
+  classes-opened = rw e (fields (λ t. t .tclass) ts)

@@ -154,6 +154,19 @@ module _ (c : List ℕ) (n tables : ℕ) (ss : List ℕ) (v : List ℕ) (at coun
           })
       go (missing p) x y = absurd (unfold openedBy missingAt in let w : false ≡ true = sym (ap (λ z. z .fine) y) ∙ f in let z : _≡_ {A = ℕ} 0 1 = cc in omega arith)
 
+  module _ (o : Opened) (a : StartsAre c n tables ss) (l : (1 ≤ count) × (count ≤ 4)) (e : o ≡ openedBy ss (tablesNamed (tablesFrom c n n 0) (namesAt v at count))) (f : o .fine ≡ true) where
+    pub block-found : tablesNamed (tablesFrom c n n 0) (namesAt v at count) ≡ all (refsOf (tablesNamed (tablesFrom c n n 0) (namesAt v at count)))
+    block-found = block-opened o a l e f .found
+
+    pub block-opens : openOf c n (o .scope) ≡ opened (refsOf (tablesNamed (tablesFrom c n n 0) (namesAt v at count)))
+    block-opens = block-opened o a l e f .opens
+
+    pub block-among : Among n (o .scope)
+    block-among = block-opened o a l e f .among
+
+    pub block-counted : o .scope .count ≡ count
+    block-counted = block-opened o a l e f .counted ∙ names-length (tablesFrom c n n 0) v at count _ block-found
+
   -- the number of each table is found again at its TABLE record
   pub number-again : (ts : List TabRef) (t : TabRef) (j p r : ℕ) → tablesNamed (tablesFrom c n n 0) (namesAt v at count) ≡ all ts → j < count → nth ts j ≡ done t → p ≡ at + j
       → (tableNamed (nameOf (nodeAt v p)) (tablesFrom c n n 0) ≡ refBy c n ss tables r) × (r ≤ tables) → r ≡ t .num

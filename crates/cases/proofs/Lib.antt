@@ -1,0 +1,3 @@
+-- The laws of openings, of the fill and of the digest.
+-- Assumes nothing.
+pub mod Laws

@@ -1,0 +1,275 @@
+-- The root's block and the whole view: one law for each place of the code.
+-- Assumes nothing.
+use Prim.Native.Nat.{ℕ, zero, suc, _+_, _-_, _*_, _<_, _≤_}
+use mathlib.Core.Path.{_≡_, refl, sym, ap, _∙_}
+use mathlib.Core.Bool.{Bool, true, false, not, cond}
+use mathlib.Core.List.{List, [], _∷_, map}
+use native.Mathlib.Omega.{arith}
+use borrow.Author.Needs.{needs}
+use borrow.Author.Tests.{eq-eqb, ne-eqb}
+use types.Run.{OneOf, miss}
+use lib.Dec.{eqb}
+use lib.ListN.{length, replicate}
+use Rattle.word.specs.Header.{countAt}
+use Rattle.class.specs.declared.Info.{Info}
+use Rattle.class.specs.declared.Info.the-variants.{Fixed}
+use Rattle.cell.specs.Types.{kindOf}
+use Rattle.cell.specs.declared.Type.{«Type» as Ty}
+use Rattle.catalogue.specs.Tables.{Table, TabRef, tablesFrom}
+use Rattle.view.specs.Ast.{TabName, Exp, Block, Parsed, ok, refused, WasRead}
+use Rattle.view.specs.Record.{nodeAt}
+use Rattle.view.specs.Parse.{many, namesAt, parseBlock, parseValue, parseView, checkOf}
+use Rattle.view.specs.declared.Node.{Node}
+use Rattle.view.specs.declared.Node.the-variants.{Select as SelectNode}
+use Rattle.view.proofs.Read.{InBlock, block-ok, here-ok, was-read, more-ok, none-ok}
+use Rattle.view.proofs.Says.{select-few}
+use Rattle.view.proofs.Whole.{Taken, taken, taken-count, select-read}
+use Rattle.scope.specs.Scopes.{Open}
+use Rattle.scope.specs.Table.{openOf, scopesOf, infosOf}
+use Rattle.scope.specs.Blocks.{Tabs, all, missing, tablesNamed, refsOf, opened}
+use Rattle.scope.specs.Entry.{openedBy}
+use Rattle.scope.specs.declared.Scope.{Scope}
+use Rattle.scope.specs.declared.Opened.{Opened}
+use Rattle.scope.proofs.Named.{BlockOpened, block-missing, block-opened}
+use Rattle.resolve.specs.Expr.{Expr}
+use Rattle.resolve.specs.Resolve.{Out, good, bad, resolve, Outs, goods, bads, alsoOut, resolveAll, select, refused as denied, withValues, withTest, withTabs, resolveView}
+use Rattle.resolve.specs.Typed.{knownOf, typedBy}
+use Rattle.resolve.specs.Claims.{Lent, Ready, answerAt, Accepted, Rooted, Several, resolvedBy, resolvedAll, verdictOf, verdictAll}
+use Rattle.resolve.specs.declared.Files.{Files}
+use Rattle.resolve.specs.declared.Known.{Known}
+use Rattle.resolve.specs.declared.Typed.{Typed}
+use Rattle.resolve.specs.declared.Typed.the-variants as typed
+use Rattle.resolve.specs.declared.Verdict.{Verdict}
+use Rattle.resolve.specs.declared.Verdict.the-variants as verdict
+use Rattle.resolve.proofs.Inversion.{GoodAt, typed-known, typed-refused}
+use Rattle.resolve.proofs.Turns.{after}
+use Rattle.resolve.proofs.Scoped.{not-true, not-false}
+
+-- SEVERAL VALUES
+also-bad : (o : Out) (rest : Outs) (i p : ℕ) → o ≡ bad i p → verdictAll (alsoOut o rest) ≡ verdict.Refused i p
+unfolding alsoOut verdictAll
+also-bad o rest i p e = rw e
+
+also-good : (o : Out) (rest : Outs) (x : Expr) (t : Ty) → o ≡ good x t → verdictAll (alsoOut o rest) ≡ verdictAll rest
+also-good o (goods xs ts) x t e = unfold alsoOut verdictAll in rw e
+also-good o (bads i p) x t e = unfold alsoOut verdictAll in rw e
+
+module _ (c ss v : List ℕ) (f : Files) (t : List Scope) where
+  abbrev p : ℕ → Parsed Exp
+  p = parseValue v (f .n) 15
+
+  -- what the values from record `at` on come to
+  abbrev pub valuesFrom : ℕ → ℕ → Verdict
+  valuesFrom count at = verdictAll (resolvedAll (tablesFrom c (f .nc) (f .nc) 0) (scopesOf c (f .nc) t 1) (many (parseValue v (f .n) 15) count at))
+
+  -- j of them are walked, the next stands at m
+  pub record Left (count at j m : ℕ) : Type 0 where
+    pub several : Several c ss v f t (count - j) m
+    pub same : valuesFrom count at ≡ valuesFrom (count - j) m
+
+  pub left-begin : (count at : ℕ) → Several c ss v f t count at → Left count at 0 at
+  left-begin count at w = let h : count - 0 ≡ count = omega arith in record { several = rw h w; same = rw h }
+
+  module _ (count at j m : ℕ) (w : Left count at j m) where
+    pub left-done : count ≤ j → verdict.Fine ≡ valuesFrom count at
+    unfolding resolvedAll resolveAll verdictAll
+    left-done l = let h : count - j ≡ 0 = omega arith in sym (w .same ∙ rw (h, none-ok p m))
+
+    module _ (l : j < count) where
+      pub left-ready : Ready c ss v f t 1 15 m
+      left-ready =
+          let h = more-ok p (count - j) m (omega arith) (w .several .is-read) in
+          let r = was-read (h .first) in
+          let g = here-ok v (f .n) 15 m r in
+          record { lent = w .several .lent; sized = w .several .sized; not-many = omega arith; is-read = r; here = g .here; left = omega arith }
+
+      module _ (r : Typed) (e : r ≡ answerAt c v f t 1 15 m) where
+        pub left-refused : (i q : ℕ) → r ≡ typed.Refused i q → verdict.Refused i q ≡ valuesFrom count at
+        unfolding resolvedAll resolveAll
+        left-refused i q g =
+            let h = more-ok p (count - j) m (omega arith) (w .several .is-read) in
+            sym (w .same ∙ rw (h .whole) (also-bad _ _ i q (typed-refused (f .k) _ _ (infosOf t 1) _ (h .head) (h .mid) i q (h .first) (sym e ∙ g))))
+
+        pub left-again : (x : Known) → r ≡ typed.Is x → Left count at (j + 1) (x .next)
+        unfolding resolvedAll resolveAll
+        left-again x g =
+            let h = more-ok p (count - j) m (omega arith) (w .several .is-read) in
+            let k = typed-known (f .k) _ _ (infosOf t 1) _ (h .head) (h .mid) x (h .first) (sym e ∙ g) in
+            let n : h .mid ≡ x .next = after (f .k) _ _ (infosOf t 1) _ (h .first) (sym e ∙ g) in
+            let z : count - j - 1 ≡ count - (j + 1) = omega arith in
+            let rest : many p (count - (j + 1)) (x .next) ≡ ok (h .tail) (h .end) = rw (z, n) at (h .rest) in
+            record {
+              several = record { lent = w .several .lent; sized = w .several .sized; is-read = was-read rest };
+              same = w .same ∙ rw (h .whole, rest) (also-good _ _ (k .x) (k .t) (k .resolved));
+            }
+
+pub ruleset lefts = (left-begin, left-done, left-ready, left-refused, left-again, needs)
+
+read-view : (cat : List Table) (P : Parsed Block) (b : Block) (end : ℕ) → P ≡ ok b end → verdictOf (resolvedBy cat P) ≡ verdictOf (withTabs cat b (tablesNamed cat (b .tables)))
+unfolding resolvedBy resolveView
+read-view cat P b end e = rw e
+
+-- THE ROOT, by its tables, its where and its values
+test-bad : (ts : List TabRef) (o : Out) (vs : Outs) (i q : ℕ) → o ≡ bad i q → verdictOf (withTest ts o vs) ≡ verdict.Refused i q
+unfolding withTest verdictOf
+test-bad ts o vs i q e = rw e
+
+values-bad : (ts : List TabRef) (o : Out) (vs : Outs) (x : Expr) (s : Ty) (i q : ℕ) → o ≡ good x s → verdictAll vs ≡ verdict.Refused i q
+    → verdictOf (withTest ts o vs) ≡ verdict.Refused i q
+values-bad ts o (goods xs us) x s i q e g = absurd (unfold verdictAll in let z : _≡_ {A = ℕ} 0 1 = cc in omega arith)
+values-bad ts o (bads j r) x s i q e g = unfold withTest withValues verdictOf verdictAll in rw e g
+
+where-judged : (ts : List TabRef) (o : Out) (vs : Outs) (x : Expr) (s : Ty) → o ≡ good x s → verdictAll vs ≡ verdict.Fine
+    → verdictOf (withTest ts o vs) ≡ cond (eqb (kindOf s) 1) verdict.Fine (verdict.Refused 9 0)
+where-judged ts o (bads j r) x s e g = absurd (unfold verdictAll in let z : _≡_ {A = ℕ} 0 1 = cc in omega arith)
+where-judged ts o (goods xs us) x s e g = unfold withTest withValues in rw e (go (eqb (kindOf s) 1))
+  where
+    go : (b : Bool) → verdictOf (cond b (select (record { from = ts; test = x; values = xs }) us) (denied 9 0)) ≡ cond b verdict.Fine (verdict.Refused 9 0)
+    go true = unfold verdictOf in refl
+    go false = unfold verdictOf in refl
+
+module _ (c ss v : List ℕ) (f : Files) (tables count : ℕ) (w : Rooted c ss v f tables count) where
+  abbrev cat : List Table
+  cat = tablesFrom c (f .nc) (f .nc) 0
+
+  abbrev b : Block
+  b = w .is-read .tree
+
+  abbrev rootAnswer : Verdict
+  rootAnswer = verdictOf (resolvedBy (tablesFrom c (f .nc) (f .nc) 0) (parseBlock v (f .n) 15 (parseValue v (f .n) 15) tables count 1))
+
+  parts : InBlock v (f .n) (parseValue v (f .n) 15) tables count 1 (w .is-read .tree) (w .is-read .end)
+  parts = block-ok v (f .n) 15 (parseValue v (f .n) 15) tables count 1 (w .is-read .is)
+
+  abbrev tabs : Tabs
+  tabs = tablesNamed (tablesFrom c (f .nc) (f .nc) 0) (namesAt v 1 tables)
+
+  by-tables : rootAnswer ≡ verdictOf (withTabs cat b tabs)
+  by-tables = read-view cat _ b (w .is-read .end) (w .is-read .is) ∙ ap (λ (xs : List TabName). verdictOf (withTabs cat b (tablesNamed cat xs))) (parts .names)
+
+  where-here : 1 + tables < f .n
+  where-here = here-ok v (f .n) 15 (1 + tables) (was-read (parts .first)) .here
+
+  pub root-room : 8 + 8 * (1 + tables) ≤ length v
+  root-room = let h = where-here in omega arith
+
+  module _ (o : Opened) (q : o ≡ openedBy ss (tablesNamed (tablesFrom c (f .nc) (f .nc) 0) (namesAt v 1 tables))) where
+    pub root-6 : not (o .fine) ≡ true → verdict.Refused 6 (o .place)
+        ≡ verdictOf (resolvedBy (tablesFrom c (f .nc) (f .nc) 0) (parseBlock v (f .n) 15 (parseValue v (f .n) 15) tables count 1))
+    unfolding withTabs verdictOf
+    root-6 z = sym (by-tables ∙ rw (block-missing ss tabs o q (not-true (o .fine) z)))
+
+    module _ (z : not (o .fine) ≡ false) where
+      there : BlockOpened c (f .nc) (tablesNamed (tablesFrom c (f .nc) (f .nc) 0) (namesAt v 1 tables)) (o .scope)
+      there = block-opened c (f .nc) (f .tables) ss v 1 tables o (w .lent .starts) (w .some-tables, w .few-tables) q (not-false (o .fine) z)
+
+      abbrev t : List Scope
+      t = replicate 16 (o .scope)
+
+      pub root-ready : Ready c ss v f (replicate 16 (o .scope)) 1 15 (1 + tables)
+      root-ready = record { lent = w .lent; sized = refl; not-many = omega arith; is-read = was-read (parts .first); here = where-here; left = omega arith }
+
+      root-scopes : scopesOf c (f .nc) (replicate 16 (o .scope)) 1 ≡ opened (refsOf tabs) ∷ []
+      unfolding scopesOf
+      root-scopes = ap (λ (s : Open). s ∷ []) (there .opens)
+
+      abbrev outs : Outs
+      outs = resolveAll (tablesFrom c (f .nc) (f .nc) 0) (scopesOf c (f .nc) (replicate 16 (o .scope)) 1) (w .is-read .tree .values)
+
+      by-parts : rootAnswer ≡ verdictOf (withTest (refsOf tabs) (resolve cat (scopesOf c (f .nc) (replicate 16 (o .scope)) 1) (b .test)) outs)
+      unfolding withTabs
+      by-parts =
+          by-tables ∙ ap (λ (T : Tabs). verdictOf (withTabs cat b T)) (there .found)
+          ∙ ap (λ (Γ : List Open). verdictOf (withTest (refsOf tabs) (resolve cat Γ (b .test)) (resolveAll cat Γ (b .values)))) (sym root-scopes)
+
+      module _ (l : Typed) (a : l ≡ answerAt c v f (replicate 16 (o .scope)) 1 15 (1 + tables)) where
+        pub root-refused : (i k : ℕ) → l ≡ typed.Refused i k → verdict.Refused i k
+            ≡ verdictOf (resolvedBy (tablesFrom c (f .nc) (f .nc) 0) (parseBlock v (f .n) 15 (parseValue v (f .n) 15) tables count 1))
+        root-refused i k g =
+            sym (by-parts ∙ test-bad _ _ _ i k (typed-refused (f .k) cat _ (infosOf t 1) _ (b .test) (parts .mid) i k (parts .first) (sym a ∙ g)))
+
+        module _ (x : Known) (g : l ≡ typed.Is x) where
+          known : GoodAt (f .k) cat (scopesOf c (f .nc) t 1) (infosOf t 1) (b .test) (parts .mid) x
+          known = typed-known (f .k) cat _ (infosOf t 1) _ (b .test) (parts .mid) x (parts .first) (sym a ∙ g)
+
+          type-is : x .ty ≡ known .t
+          unfolding knownOf
+          type-is = ap (λ (h : Known). h .ty) (known .known)
+
+          values-at : many (parseValue v (f .n) 15) count (x .next) ≡ ok (b .values) (w .is-read .end)
+          values-at = rw (after (f .k) cat _ (infosOf t 1) _ (parts .first) (sym a ∙ g)) at (parts .rest)
+
+          pub values-ready : Several c ss v f (replicate 16 (o .scope)) count (x .next)
+          values-ready = record { lent = w .lent; sized = refl; is-read = was-read values-at }
+
+          module _ (r : Verdict) (h : r ≡ verdictAll (resolvedAll (tablesFrom c (f .nc) (f .nc) 0) (scopesOf c (f .nc) (replicate 16 (o .scope)) 1) (many (parseValue v (f .n) 15) count (x .next)))) where
+            outs-are : r ≡ verdictAll outs
+            unfolding resolvedAll
+            outs-are = h ∙ rw values-at
+
+            pub values-refused : (i k : ℕ) → r ≡ verdict.Refused i k → verdict.Refused i k
+                ≡ verdictOf (resolvedBy (tablesFrom c (f .nc) (f .nc) 0) (parseBlock v (f .n) 15 (parseValue v (f .n) 15) tables count 1))
+            values-refused i k j = sym (by-parts ∙ values-bad _ _ outs (known .x) (known .t) i k (known .resolved) (sym outs-are ∙ j))
+
+            module _ (j : r ≡ verdict.Fine) (kind : ℕ) (m : kind ≡ kindOf (x .ty)) where
+              judged : rootAnswer ≡ cond (eqb (kindOf (known .t)) 1) verdict.Fine (verdict.Refused 9 0)
+              judged = by-parts ∙ where-judged _ _ outs (known .x) (known .t) (known .resolved) (sym outs-are ∙ j)
+
+              kind-is : kind ≡ kindOf (known .t)
+              kind-is = m ∙ ap kindOf type-is
+
+              pub root-fine : kind ≡ 1 → verdict.Fine
+                  ≡ verdictOf (resolvedBy (tablesFrom c (f .nc) (f .nc) 0) (parseBlock v (f .n) 15 (parseValue v (f .n) 15) tables count 1))
+              root-fine e = sym (judged ∙ rw (eq-eqb (kindOf (known .t)) 1 (sym kind-is ∙ e)))
+
+              pub root-9 : (kind ≡ 1 → ⊥) → verdict.Refused 9 0
+                  ≡ verdictOf (resolvedBy (tablesFrom c (f .nc) (f .nc) 0) (parseBlock v (f .n) 15 (parseValue v (f .n) 15) tables count 1))
+              root-9 e = sym (judged ∙ rw (ne-eqb (kindOf (known .t)) 1 (λ d. e (kind-is ∙ d))))
+
+pub ruleset roots = (root-6, root-ready, root-refused, values-ready, values-refused, root-fine, root-9, needs)
+
+-- THE WHOLE VIEW
+-- SELECT's variant is none of the others
+pub no-other : OneOf (0 ∷ 1 ∷ 2 ∷ 3 ∷ 4 ∷ 5 ∷ 6 ∷ 8 ∷ 9 ∷ 10 ∷ 11 ∷ []) 7 → ⊥
+no-other = miss (0 ∷ 1 ∷ 2 ∷ 3 ∷ 4 ∷ 5 ∷ 6 ∷ 8 ∷ 9 ∷ 10 ∷ 11 ∷ []) 7 tt
+
+module _ (c ss v : List ℕ) (f : Files) (w : Accepted c ss v f) where
+  pub whole-taken : Taken v
+  whole-taken = taken v refl (w .taken)
+
+  count-is : f .n ≡ countAt v
+  count-is = taken-count v refl (w .taken)
+
+  pub whole-room : 8 + 8 * 0 + 8 ≤ length v
+  whole-room = let h = whole-taken .long in let g = whole-taken .some in omega arith
+
+  -- the root is SELECT
+  pub whole-select : (nd : Node) → nd ≡ nodeAt v 0 → nd ≡ SelectNode (whole-taken .tables) (whole-taken .values)
+  whole-select nd e = e ∙ whole-taken .root
+
+  module _ (nd : Node) (e : nd ≡ nodeAt v 0) (a b : ℕ) (g : nd ≡ SelectNode a b) where
+    pub whole-rooted : Rooted c ss v f a b
+    whole-rooted =
+        let h = whole-taken .long in
+        let k = whole-taken .few in
+        let m = select-few v 0 e g in
+        let n = count-is in
+        record {
+          lent = record { cat-long = w .cat-long; cat-few = w .cat-few; starts = w .starts; view-long = omega arith; view-few = omega arith };
+          some-tables = m .0;
+          few-tables = m .1;
+          few-values = m .3;
+          is-read = select-read v whole-taken e count-is g;
+        }
+
+    pub whole-done : (r : Verdict) → r ≡ verdictOf (resolvedBy (tablesFrom c (f .nc) (f .nc) 0) (parseBlock v (f .n) 15 (parseValue v (f .n) 15) a b 1))
+        → r ≡ verdictOf (resolvedBy (tablesFrom c (f .nc) (f .nc) 0) (parseView v))
+    whole-done r h =
+        let s : SelectNode (whole-taken .tables) (whole-taken .values) ≡ SelectNode a b = sym (whole-taken .root) ∙ sym e ∙ g in
+        let x : whole-taken .tables ≡ a = cc in
+        let y : whole-taken .values ≡ b = cc in
+        let n = count-is in
+        let z : parseBlock v (f .n) 15 (parseValue v (f .n) 15) a b 1 ≡ parseView v = rw (n, ← x, ← y) (whole-taken .read ∙ sym (whole-taken .whole)) in
+        h ∙ ap (λ (P : Parsed Block). verdictOf (resolvedBy (tablesFrom c (f .nc) (f .nc) 0) P)) z
+
+pub ruleset wholes = (whole-room, whole-rooted, whole-done, needs)

@@ -1,0 +1,223 @@
+-- The walk where a scope opens, LET and the blocks: one law for each place of its code.
+-- Assumes nothing.
+use Prim.Native.Nat.{ℕ, zero, suc, _+_, _-_, _*_, _<_, _≤_}
+use mathlib.Core.Path.{_≡_, refl, sym, ap, _∙_}
+use mathlib.Core.Bool.{Bool, true, false, not}
+use mathlib.Core.List.{List, [], _∷_, map}
+use native.Mathlib.Omega.{arith}
+use lib.ListN.{length, set, length-set}
+use Rattle.class.specs.declared.Info.{Info}
+use Rattle.class.specs.declared.Info.the-variants.{Fixed, Bound}
+use Rattle.cell.specs.declared.Type.{«Type» as Ty}
+use Rattle.catalogue.specs.Tables.{Table, TabRef, tablesFrom}
+use Rattle.catalogue.specs.Starts.{StartsAre}
+use Rattle.view.specs.Ast.{TabName, Exp, Parsed, ok, refused, WasRead}
+use Rattle.view.specs.Ast as ast
+use Rattle.view.specs.Record.{nodeAt}
+use Rattle.view.specs.Parse.{namesAt, parseValue}
+use Rattle.view.specs.declared.Node.{Node}
+use Rattle.view.specs.declared.Node.the-variants.{Exists, Single, Let}
+use Rattle.view.proofs.Read as read
+use Rattle.view.proofs.Read.{One, Two, Listed, here-ok, was-read}
+use Rattle.view.proofs.Says.{exists-few, single-few}
+use Rattle.scope.specs.Scopes.{Open, block, local}
+use Rattle.scope.specs.Table.{openOf, scopesOf, infosOf}
+use Rattle.scope.specs.Blocks.{Tabs, all, missing, tablesNamed, refsOf, opened}
+use Rattle.scope.specs.Entry.{localScope, openedBy, tablesIn}
+use Rattle.scope.specs.declared.Scope.{Scope}
+use Rattle.scope.specs.declared.Opened.{Opened}
+use Rattle.scope.proofs.Pushes as push
+use Rattle.scope.proofs.Named.{BlockOpened, block-missing, block-opened, names-length}
+use Rattle.resolve.specs.Typed.{typedBy}
+use Rattle.resolve.specs.Steps.{letK, refsTo, existsT, singleT}
+use Rattle.resolve.specs.Claims.{Lent, Ready, Opening, answerAt, blockNode}
+use Rattle.resolve.specs.declared.Files.{Files}
+use Rattle.resolve.specs.declared.Known.{Known}
+use Rattle.resolve.specs.declared.Typed.{Typed}
+use Rattle.resolve.specs.declared.Typed.the-variants as typed
+use Rattle.resolve.proofs.Equations.{thenT, let-step, exists-step, exists-missing, single-step, single-missing}
+use Rattle.resolve.proofs.Tables.{own-exists, own-single}
+use Rattle.resolve.proofs.Turns.{then-is, then-refused, after, child}
+
+pub not-true : (b : Bool) → not b ≡ true → b ≡ false
+not-true true e = sym e
+not-true false e = refl
+
+pub not-false : (b : Bool) → not b ≡ false → b ≡ true
+not-false true e = refl
+not-false false e = sym e
+
+-- the node of a block, as the walk has found it
+pub exists-node : (v : List ℕ) (at a : ℕ) (nd : Node) → nd ≡ nodeAt v at → nd ≡ Exists a → nodeAt v at ≡ blockNode false a
+unfolding blockNode
+exists-node v at a nd e g = sym e ∙ g
+
+pub single-node : (v : List ℕ) (at a : ℕ) (nd : Node) → nd ≡ nodeAt v at → nd ≡ Single a → nodeAt v at ≡ blockNode true a
+unfolding blockNode
+single-node v at a nd e g = sym e ∙ g
+
+module _ (c ss v : List ℕ) (f : Files) where
+  abbrev cat : List Table
+  cat = tablesFrom c (f .nc) (f .nc) 0
+
+  -- one more scope open
+  module _ (t : List Scope) (deep d at : ℕ) (w : Ready c ss v f t deep d at) (s : Scope) (u : List Scope) (e : u ≡ set t deep s) where
+    inner : (m : ℕ) → WasRead (parseValue v (f .n) (d - 1) m) → Ready c ss v f u (deep + 1) (d - 1) m
+    inner m r = child c ss v f t u deep (deep + 1) d at m w (rw e (simp length-set (w .sized))) (omega arith) r
+
+  pub push-room : (t : List Scope) (deep d at : ℕ) → Ready c ss v f t deep d at → deep < 16
+  push-room t deep d at w = omega arith
+
+  -- LET
+  module _ (t : List Scope) (deep d at : ℕ) (nd : Node) (w : Ready c ss v f t deep d at) (e : nd ≡ nodeAt v at) (name : ℕ) (g : nd ≡ Let name) where
+    two-let : Two (parseValue v (f .n) (d - 1)) (at + 1) (parseValue v (f .n) d at) (ast.Exp.letin at name)
+    two-let = read.let-read v (f .n) d at (w .is-read) e g
+
+    pub let-ready : Ready c ss v f t deep (d - 1) (at + 1)
+    let-ready = child c ss v f t t deep deep d at (at + 1) w (w .sized) (omega arith) (was-read (two-let .first))
+
+    module _ (l : Typed) (a : l ≡ answerAt c v f t deep (d - 1) (at + 1)) where
+      abbrev bodied : Known → Typed
+      bodied x =
+          thenT (typedBy (f .k) (tablesFrom c (f .nc) (f .nc) 0) (local name (x .ty) ∷ scopesOf c (f .nc) t deep) (x .info ∷ infosOf t deep) (parseValue v (f .n) (d - 1) (x .next)))
+          (λ y. typed.Is (letK x y))
+
+      let-whole : answerAt c v f t deep d at ≡ thenT l bodied
+      let-whole = let-step (f .k) _ _ _ _ at _ name two-let ∙ ap (λ (z : Typed). thenT z bodied) (sym a)
+
+      pub let-refused : (i p : ℕ) → l ≡ typed.Refused i p → typed.Refused i p ≡ answerAt c v f t deep d at
+      let-refused i p b = sym (let-whole ∙ then-refused l i p _ b)
+
+      module _ (x : Known) (b : l ≡ typed.Is x) (s : Scope) (u : List Scope) (p : s ≡ localScope name (x .ty) (x .info)) (q : u ≡ set t deep s) where
+        pub body-ready : Ready c ss v f u (deep + 1) (d - 1) (x .next)
+        body-ready = inner t deep d at w s u q (x .next) (rw (after _ _ _ _ _ (two-let .first) (sym a ∙ b)) at (was-read (two-let .second)))
+
+        body-scopes : scopesOf c (f .nc) u (deep + 1) ≡ local name (x .ty) ∷ scopesOf c (f .nc) t deep
+        body-scopes = push.local-scopes c (f .nc) t u deep s q (push-room t deep d at w) (w .sized) name (x .ty) (x .info) p
+
+        body-infos : infosOf u (deep + 1) ≡ x .info ∷ infosOf t deep
+        body-infos = push.local-infos c (f .nc) t u deep s q (push-room t deep d at w) (w .sized) name (x .ty) (x .info) p
+
+        body-whole : answerAt c v f t deep d at ≡ thenT (answerAt c v f u (deep + 1) (d - 1) (x .next)) (λ y. typed.Is (letK x y))
+        body-whole = let-whole ∙ then-is l x bodied b ∙ rw (← body-scopes, ← body-infos)
+
+        module _ (r : Typed) (h : r ≡ answerAt c v f u (deep + 1) (d - 1) (x .next)) where
+          pub body-refused : (i k : ℕ) → r ≡ typed.Refused i k → typed.Refused i k ≡ answerAt c v f t deep d at
+          body-refused i k j = sym (body-whole ∙ then-refused _ i k _ (sym h ∙ j))
+
+          pub let-done : (y z : Known) → r ≡ typed.Is y → z ≡ letK x y → typed.Is z ≡ answerAt c v f t deep d at
+          let-done y z j m = ap typed.Is m ∙ sym (body-whole ∙ then-is _ y _ (sym h ∙ j))
+
+  -- a block's node
+  module _ (t : List Scope) (deep d at : ℕ) (w : Ready c ss v f t deep d at) (single : Bool) (count : ℕ) (g : nodeAt v at ≡ blockNode single count) where
+    exists-here : single ≡ false → nodeAt v at ≡ Exists count
+    unfolding blockNode
+    exists-here e = g ∙ rw e
+
+    single-here : single ≡ true → nodeAt v at ≡ Single count
+    unfolding blockNode
+    single-here e = g ∙ rw e
+
+    few : (b : Bool) → single ≡ b → (1 ≤ count) × (count ≤ 4)
+    few false e = exists-few v at refl (exists-here e)
+    few true e = single-few v at refl (single-here e)
+
+    listed : (b : Bool) → single ≡ b → Listed v (f .n) (at + 1) count
+    listed false e = read.exists-listed v (f .n) d at (w .is-read) refl (exists-here e)
+    listed true e = read.single-listed v (f .n) d at (w .is-read) refl (single-here e)
+
+    where-read : (b : Bool) → single ≡ b → WasRead (parseValue v (f .n) (d - 1) (at + 1 + count))
+    where-read false e = was-read (read.exists-read v (f .n) d at (w .is-read) refl (exists-here e) .first)
+    where-read true e = was-read (read.single-read v (f .n) d at (w .is-read) refl (single-here e) .first)
+
+    pub block-room : 8 + 8 * (at + 1 + count) ≤ length v
+    block-room = let h = listed single refl .within in omega arith
+
+    pub block-next : at + 1 + count ≤ 1024
+    block-next = let h = listed single refl .within in omega arith
+
+    pub block-few : count ≤ 4
+    block-few = few single refl .1
+
+    abbrev tabs : Tabs
+    tabs = tablesNamed (tablesFrom c (f .nc) (f .nc) 0) (namesAt v (at + 1) count)
+
+    exists-one : single ≡ false → One (parseValue v (f .n) (d - 1)) (at + 1 + count) (parseValue v (f .n) d at) (ast.Exp.exists at (namesAt v (at + 1) count))
+    exists-one e = read.exists-read v (f .n) d at (w .is-read) refl (exists-here e)
+
+    single-two : single ≡ true → Two (parseValue v (f .n) (d - 1)) (at + 1 + count) (parseValue v (f .n) d at) (ast.Exp.single at (namesAt v (at + 1) count))
+    single-two e = read.single-read v (f .n) d at (w .is-read) refl (single-here e)
+
+    module _ (o : Opened) (p : o ≡ openedBy ss (tablesNamed (tablesFrom c (f .nc) (f .nc) 0) (namesAt v (at + 1) count))) where
+      pub block-6 : not (o .fine) ≡ true → typed.Refused 6 (o .place) ≡ answerAt c v f t deep d at
+      block-6 z = go single refl
+        where
+          gone : tabs ≡ missing (o .place)
+          gone = block-missing ss tabs o p (not-true (o .fine) z)
+
+          go : (b : Bool) → single ≡ b → typed.Refused 6 (o .place) ≡ answerAt c v f t deep d at
+          go false e = sym (exists-missing (f .k) cat _ _ _ at _ (at + 1 + count) _ (o .place) (exists-one e) gone)
+          go true e = sym (single-missing (f .k) cat _ _ _ at _ (at + 1 + count) _ (o .place) (single-two e) gone)
+
+      module _ (z : not (o .fine) ≡ false) where
+        there : BlockOpened c (f .nc) (tablesNamed (tablesFrom c (f .nc) (f .nc) 0) (namesAt v (at + 1) count)) (o .scope)
+        there = block-opened c (f .nc) (f .tables) ss v (at + 1) count o (w .lent .starts) (few single refl) p (not-false (o .fine) z)
+
+        pub block-opening : Opening c (f .nc) (o .scope)
+        block-opening =
+            let h = names-length cat v (at + 1) count (refsOf tabs) (there .found) in
+            let k = few single refl .0 in
+            record { long = w .lent .cat-long; among = there .among; some = rw (there .counted, h) k }
+
+        module _ (u : List Scope) (q : u ≡ set t deep (o .scope)) where
+          pub where-ready : Ready c ss v f u (deep + 1) (d - 1) (at + 1 + count)
+          where-ready = inner t deep d at w (o .scope) u q (at + 1 + count) (where-read single refl)
+
+          block-scopes : scopesOf c (f .nc) u (deep + 1) ≡ opened (refsOf tabs) ∷ scopesOf c (f .nc) t deep
+          block-scopes = push.block-scopes c (f .nc) t u deep (o .scope) q (push-room t deep d at w) (w .sized) tabs there
+
+          block-infos : infosOf u (deep + 1) ≡ Fixed 0 ∷ infosOf t deep
+          block-infos = push.block-infos c (f .nc) t u deep (o .scope) q (push-room t deep d at w) (w .sized) tabs there
+
+          own-tables : tablesIn (openOf c (f .nc) (o .scope)) ≡ map (λ r. r .table) (refsOf tabs)
+          unfolding tablesIn
+          own-tables = ap tablesIn (there .opens)
+
+          exists-whole : single ≡ false → answerAt c v f t deep d at ≡ thenT (answerAt c v f u (deep + 1) (d - 1) (at + 1 + count)) (existsT at (refsOf tabs))
+          exists-whole e = exists-step (f .k) cat _ _ _ at _ (at + 1 + count) _ (refsOf tabs) (exists-one e) (there .found) ∙ rw (← block-scopes, ← block-infos)
+
+          single-whole : single ≡ true
+              → answerAt c v f t deep d at ≡ thenT (answerAt c v f u (deep + 1) (d - 1) (at + 1 + count)) (λ x. thenT (answerAt c v f u (deep + 1) (d - 1) (x .next)) (singleT at (refsOf tabs) x))
+          single-whole e = single-step (f .k) cat _ _ _ at _ (at + 1 + count) _ (refsOf tabs) (single-two e) (there .found) ∙ rw (← block-scopes, ← block-infos)
+
+          module _ (l : Typed) (a : l ≡ answerAt c v f u (deep + 1) (d - 1) (at + 1 + count)) where
+            pub where-refused : (i k : ℕ) → l ≡ typed.Refused i k → typed.Refused i k ≡ answerAt c v f t deep d at
+            where-refused i k b = go single refl
+              where
+                go : (s : Bool) → single ≡ s → typed.Refused i k ≡ answerAt c v f t deep d at
+                go false e = sym (exists-whole e ∙ then-refused _ i k _ (sym a ∙ b))
+                go true e = sym (single-whole e ∙ then-refused _ i k _ (sym a ∙ b))
+
+            module _ (x : Known) (b : l ≡ typed.Is x) where
+              pub exists-done : (r : Typed) → single ≡ false → r ≡ existsT at (refsTo (tablesIn (openOf c (f .nc) (o .scope)))) x → r ≡ answerAt c v f t deep d at
+              exists-done r e h =
+                  h ∙ ap (λ (us : List Table). existsT at (refsTo us) x) own-tables ∙ sym (own-exists (refsOf tabs) at x)
+                  ∙ sym (exists-whole e ∙ then-is _ x _ (sym a ∙ b))
+
+              module _ (e : single ≡ true) where
+                pub value-ready : Ready c ss v f u (deep + 1) (d - 1) (x .next)
+                value-ready =
+                    inner t deep d at w (o .scope) u q (x .next)
+                    (rw (after (f .k) cat (scopesOf c (f .nc) u (deep + 1)) (infosOf u (deep + 1)) _ (single-two e .first) (sym a ∙ b)) at (was-read (single-two e .second)))
+
+                value-whole : answerAt c v f t deep d at ≡ thenT (answerAt c v f u (deep + 1) (d - 1) (x .next)) (singleT at (refsOf tabs) x)
+                value-whole = single-whole e ∙ then-is _ x _ (sym a ∙ b)
+
+                module _ (r : Typed) (h : r ≡ answerAt c v f u (deep + 1) (d - 1) (x .next)) where
+                  pub value-refused : (i k : ℕ) → r ≡ typed.Refused i k → typed.Refused i k ≡ answerAt c v f t deep d at
+                  value-refused i k j = sym (value-whole ∙ then-refused _ i k _ (sym h ∙ j))
+
+                  pub single-done : (y : Known) (s : Typed) → r ≡ typed.Is y → s ≡ singleT at (refsTo (tablesIn (openOf c (f .nc) (o .scope)))) x y → s ≡ answerAt c v f t deep d at
+                  single-done y s j m =
+                      m ∙ ap (λ (us : List Table). singleT at (refsTo us) x y) own-tables ∙ sym (own-single (refsOf tabs) at x y)
+                      ∙ sym (value-whole ∙ then-is _ y _ (sym h ∙ j))

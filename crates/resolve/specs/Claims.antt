@@ -1,0 +1,96 @@
+-- What the walk requires of its caller, and its answer for a whole view.
+-- Assumes nothing.
+use Prim.Native.Nat.{ℕ, _+_, _*_, _<_, _≤_}
+use mathlib.Core.Path.{_≡_}
+use mathlib.Core.Bool.{Bool, true, false}
+use mathlib.Core.List.{List}
+use lib.ListN.{length}
+use Rattle.catalogue.specs.Tables.{Table, tablesFrom}
+use Rattle.catalogue.specs.Starts.{StartsAre}
+use Rattle.view.specs.Ast.{Exp, Block, Parsed, ok, refused, WasRead}
+use Rattle.view.specs.Parse.{many, parseBlock, parseValue, checkOf}
+use Rattle.view.specs.declared.Verdict.the-variants as structure
+use Rattle.view.specs.declared.Node.{Node}
+use Rattle.view.specs.declared.Node.the-variants.{Exists, Single}
+use Rattle.scope.specs.Scopes.{Open}
+use Rattle.scope.specs.Table.{scopesOf, infosOf}
+use Rattle.scope.specs.Entry.{Among}
+use Rattle.scope.specs.declared.Scope.{Scope}
+use Rattle.resolve.specs.Resolve.{Outs, goods, bads, resolveAll, Resolved, select, refused as denied, resolveView}
+use Rattle.resolve.specs.Typed.{typedBy}
+use Rattle.resolve.specs.declared.Files.{Files}
+use Rattle.resolve.specs.declared.Typed.{Typed}
+use Rattle.resolve.specs.declared.Verdict.{Verdict}
+use Rattle.resolve.specs.declared.Verdict.the-variants as verdict
+
+-- a catalogue's and a view's numbers are right
+pub record Lent (c ss v : List ℕ) (f : Files) : Type 0 where
+  pub cat-long : 8 + 8 * f .nc ≤ length c
+  pub cat-few : f .nc ≤ 2080
+  pub starts : StartsAre c (f .nc) (f .tables) ss
+  pub view-long : 8 + 8 * f .n ≤ length v
+  pub view-few : f .n ≤ 1024
+
+-- a value that was read at a record, with d levels left, under so many open scopes
+pub record Ready (c ss v : List ℕ) (f : Files) (t : List Scope) (deep d at : ℕ) : Type 0 where
+  pub lent : Lent c ss v f
+  pub sized : length t ≡ 16
+  pub not-many : deep + d ≤ 16
+  pub is-read : WasRead (parseValue v (f .n) d at)
+  pub here : at < f .n
+  pub left : 0 < d
+
+-- a block's entry: its tables are the catalogue's, and there is one
+pub record Opening (c : List ℕ) (n : ℕ) (s : Scope) : Type 0 where
+  pub long : 8 + 8 * n ≤ length c
+  pub among : Among n s
+  pub some : 1 ≤ s .count
+
+-- the walk's answer there
+abbrev pub answerAt : List ℕ → List ℕ → Files → List Scope → ℕ → ℕ → ℕ → Typed
+answerAt c v f t deep d at =
+    typedBy (f .k) (tablesFrom c (f .nc) (f .nc) 0) (scopesOf c (f .nc) t deep) (infosOf t deep) (parseValue v (f .n) d at)
+
+-- EXISTS, or VALUE
+unfoldable pub blockNode : Bool → ℕ → Node
+blockNode false a = Exists a
+blockNode true a = Single a
+
+-- THE ANSWER FOR A VIEW
+unfoldable pub resolvedBy : List Table → Parsed Block → Resolved
+resolvedBy cat (ok b end) = resolveView cat b
+resolvedBy cat (refused number place) = denied number place
+
+unfoldable pub verdictOf : Resolved → Verdict
+verdictOf (select s ts) = verdict.Fine
+verdictOf (denied number place) = verdict.Refused number place
+
+-- the same of several values
+unfoldable pub resolvedAll : List Table → List Open → Parsed (List Exp) → Outs
+resolvedAll cat Γ (ok es end) = resolveAll cat Γ es
+resolvedAll cat Γ (refused number place) = bads number place
+
+unfoldable pub verdictAll : Outs → Verdict
+verdictAll (goods xs ts) = verdict.Fine
+verdictAll (bads number place) = verdict.Refused number place
+
+-- a catalogue whose numbers are right, and a view that the structural check took
+pub record Accepted (c ss v : List ℕ) (f : Files) : Type 0 where
+  pub cat-long : 8 + 8 * f .nc ≤ length c
+  pub cat-few : f .nc ≤ 2080
+  pub starts : StartsAre c (f .nc) (f .tables) ss
+  pub taken : checkOf v ≡ structure.Records (f .n)
+
+-- the root's block was read
+pub record Rooted (c ss v : List ℕ) (f : Files) (tables values : ℕ) : Type 0 where
+  pub lent : Lent c ss v f
+  pub some-tables : 1 ≤ tables
+  pub few-tables : tables ≤ 4
+  pub few-values : values ≤ 32
+  pub is-read : WasRead (parseBlock v (f .n) 15 (parseValue v (f .n) 15) tables values 1)
+
+-- so many values were read from a record on, under the root's scope alone
+pub record Several (c ss v : List ℕ) (f : Files) (t : List Scope) (count at : ℕ) : Type 0 where
+  pub lent : Lent c ss v f
+  pub sized : length t ≡ 16
+  pub is-read : WasRead (many (parseValue v (f .n) 15) count at)
