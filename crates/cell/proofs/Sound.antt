@@ -1,6 +1,6 @@
 -- THE LAW of types and values: an operator over operands of types that its rule takes isn't stuck, and gives null or a value of the rule's type.
 -- Assumes nothing.
-use Prim.Native.Nat.{ℕ, _≤_, _-_, _+_, _^_, max, min}
+use Prim.Native.Nat.{ℕ, _≤_, _-_, _+_, _^_, max}
 use mathlib.Core.Path.{_≡_, refl, sym, _∙_, subst}
 use mathlib.Core.Bool.{Bool, true, false, cond, not, _&&_, _||_, So, and-eq-true-iff, or-true, true≢false, false≢true}
 use native.Mathlib.Omega.{arith}
@@ -66,15 +66,13 @@ quotient-fits t m n f h = either t (eqb (natAbs n) 0) Null (f (quotZ m n)) ok-nu
 product-fits : (op p s : ℕ) (m : ℤ) (r : ℕ) (n : ℤ) → digitsRule p (max s r) ≡ true → HasTy (T.Fixed p (max s r)) (productFixed op p s m r n)
 unfolding productFixed
 product-fits op p s m r n e =
-    either (T.Fixed p (max s r)) (eqb op 3) _ _
-    (fixed-fits p (max s r) (quotZ (m *ℤ n) (pos (10 ^ min s r))) e)
+    either (T.Fixed p (max s r)) (eqb op 3) _ _ (fixed-fits p (max s r) _ e)
     (quotient-fits (T.Fixed p (max s r)) (m *ℤ pos (10 ^ (max s r - s + r))) n (cutFixed p (max s r)) (λ k. fixed-fits p (max s r) k e))
 
 interval-product-fits : (op f : ℕ) (i : ℤ) (s : ℕ) (m : ℤ) → HasTy (T.Interval f) (productInterval op i s m)
 unfolding productInterval
 interval-product-fits op f i s m =
-    either (T.Interval f) (eqb op 3) _ _
-    (interval-fits f (quotZ (i *ℤ m) (pos (10 ^ s))))
+    either (T.Interval f) (eqb op 3) _ _ (interval-fits f _)
     (quotient-fits (T.Interval f) (i *ℤ pos (10 ^ s)) m cutInterval (interval-fits f))
 
 -- ---- the groups of operators

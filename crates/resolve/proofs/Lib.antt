@@ -6,3 +6,4 @@ pub mod Equations
 pub mod Turns
 pub mod Scoped
 pub mod Roots
+pub mod Samples

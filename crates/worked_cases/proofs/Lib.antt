@@ -1,0 +1,3 @@
+-- The proof of the worked cases.
+-- Assumes nothing.
+pub mod Worked

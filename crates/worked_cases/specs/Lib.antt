@@ -1,0 +1,3 @@
+-- The worked cases, as a table.
+-- Assumes nothing.
+pub mod Cases
