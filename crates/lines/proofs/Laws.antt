@@ -1,7 +1,7 @@
 -- How a line's end, a line's start and a number go on by one step, in the form in which the functions meet them.
 -- Assumes nothing.
 use Prim.Native.Nat.{ℕ, zero, suc, _+_, _-_, _*_, _≤_, _<_, min}
-use mathlib.Core.Path.{_≡_, refl, sym, _∙_}
+use mathlib.Core.Path.{_≡_, refl, sym, ap, _∙_}
 use mathlib.Core.Bool.{Bool, true, false, cond, _&&_}
 use mathlib.Core.List.{List, [], _∷_}
 use native.Mathlib.Omega.{arith}
@@ -14,7 +14,7 @@ use lib.Seq.{drop-cons}
 use lib.IntN.{natAbs}
 use Rattle.word.specs.Bytes.{signed32}
 use Rattle.word.proofs.Laws.{signed-low, signed-high}
-use Rattle.lines.specs.Text.{before, lineEnd, lineStart, lineClose, lineOf, Within, isDigit, allDigits, valueFrom, numberBy, numberOf}
+use Rattle.lines.specs.Text.{before, lineEnd, lineStart, lineClose, lineOf, partOf, lineText, Within, isDigit, allDigits, valueFrom, numberBy, numberOf}
 use Rattle.lines.specs.declared.Line.{Line}
 use Rattle.lines.specs.declared.Number.{Number}
 use Rattle.lines.specs.declared.Number.the-variants.{Is, Bad}
@@ -136,6 +136,10 @@ digit-low v w b t d f l = go (leb 48 b) refl
     go false e = let z : _≡_ {A = Bool} false true = sym (rw e at d) ∙ f in let y : _≡_ {A = ℕ} 0 1 = cc in absurd (omega arith)
 
 pub ruleset numbers = (number-empty, number-start, number-other, number-further, number-large, number-done, digit-low, needs)
+
+pub number-line : (text : List ℕ) (j : ℕ) (l : Line) (n : Number) → Within text j l → n ≡ numberOf (partOf text l) → n ≡ numberOf (lineText text j)
+unfolding lineText
+number-line text j l n w e = e ∙ ap (λ x. numberOf (partOf text x)) (w .is)
 
 -- ---- signed numbers
 

@@ -5,7 +5,7 @@ use mathlib.Core.Path.{_≡_}
 use mathlib.Core.Bool.{Bool, true, false, cond, _&&_}
 use mathlib.Core.List.{List, [], _∷_}
 use lib.Dec.{eqb, ltb, leb}
-use lib.ListN.{length, getD, drop}
+use lib.ListN.{length, getD, take, drop}
 use Rattle.lines.specs.declared.Line.{Line}
 use Rattle.lines.specs.declared.Number.{Number}
 use Rattle.lines.specs.declared.Number.the-variants.{Is, Bad}
@@ -29,10 +29,18 @@ lineStart text (suc j) at = lineStart text j (min (lineEnd text at + 1) (length 
 unfoldable pub lineClose : List ℕ → ℕ → ℕ → ℕ
 lineClose text start end = cond (ltb start end && eqb (getD text (end - 1) 0) 13) (end - 1) end
 
+-- the part of a text where a line stands
+abbrev pub partOf : List ℕ → Line → List ℕ
+partOf text l = take (l .end - l .start) (drop (l .start) text)
+
 -- line number j of a text, counted from 0
 unfoldable pub lineOf : List ℕ → ℕ → Line
 lineOf text j =
     record { start = lineStart text j 0; end = lineClose text (lineStart text j 0) (lineEnd text (lineStart text j 0)) }
+
+-- its text
+unfoldable pub lineText : List ℕ → ℕ → List ℕ
+lineText text j = partOf text (lineOf text j)
 
 -- what is promised of line number j: which it is, and that it is a part of the text
 pub record Within (text : List ℕ) (j : ℕ) (r : Line) : Type 0 where

@@ -1,11 +1,12 @@
-// The lines of a text and the numbers in them, and numbers, spaces and line ends on standard output.
+// The lines of a text, the numbers and the files that they name, and numbers, spaces and line ends on standard output.
 // The definitions are in specs/: Text says what a line and a number are.
 ghost use mathlib.Core.Path.{_≡_};
 ghost use Prim.Native.Nat.{_+_, _-_, _*_, _≤_, _<_};
 ghost use lib.ListN.{length};
 ghost use lib.IntN.{natAbs};
+ghost use Rattle.io.specs.Counts.{Counts};
 ghost use Rattle.word.specs.Bytes.{signed32};
-ghost use Rattle.lines.specs.Text.{lineEnd, lineStart, lineClose, isDigit, numberOf, Within};
+ghost use Rattle.lines.specs.Text.{lineEnd, lineStart, lineClose, isDigit, lineText, numberOf, Within};
 
 // Where a line stands in a text: from start to end, without its line end.
 pub struct Line {
@@ -116,6 +117,40 @@ pub fn read_number(s: &[u8]) -> Number
         i += 1;
     }
     Number::Is(v as u16)
+}
+
+// The number that line number j says.
+pub fn number_on(text: &[u8], j: usize) -> Number
+    ensures { λ r. ⌜ r ≡ numberOf (lineText (now (text .entry)) j) ⌝ }
+{
+    let l = find_line(text, j);
+    let start = l.start;
+    let end = l.end;
+    read_number(&text[start..end])
+}
+
+// Reads the file of a name to the start of a buffer, as far as it fits, and answers how many bytes came; none from a file
+// that can't be opened.
+fn load(path: &[u8], buf: &mut [u8]) -> usize
+    ensures { λ r. ⌜ Counts r (now (buf .exit)) ⌝ }
+{
+    let fd = os::open_read(path);
+    if fd < 0 {
+        return 0;
+    }
+    let n = io::read_full(fd, buf);
+    libc::close(fd);
+    n
+}
+
+// The same for the file that line number j names.
+pub fn load_on(text: &[u8], j: usize, buf: &mut [u8]) -> usize
+    ensures { λ r. ⌜ Counts r (now (buf .exit)) ⌝ }
+{
+    let l = find_line(text, j);
+    let start = l.start;
+    let end = l.end;
+    load(&text[start..end], buf)
 }
 
 // Writes a number.

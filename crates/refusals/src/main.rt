@@ -1,5 +1,5 @@
-// Runs the files' checks on the cases of standard input, and writes the number and the place of each refusal; 0 0 where there is none.
-// Order: catalogue, store (Answer only), view. It ends whatever the input is: the cases are counted.
+// Runs the checks on the cases of standard input, and writes the number and the place of each refusal; 0 0 where there is none.
+// Order: catalogue, store (Answer only), view: its structure, then its names and types. It ends whatever the input is: the cases are counted.
 use cases::Case;
 use cases::Opening;
 
@@ -7,16 +7,6 @@ use cases::Opening;
 struct Found {
     number: u16,
     place: usize,
-}
-
-fn of_catalogue(cat: &[u8]) -> Found {
-    match catalogue::check(cat) {
-        catalogue::Verdict::Refused(number, place) => Found { number, place },
-        catalogue::Verdict::Tables(_) => Found {
-            number: 0,
-            place: 0,
-        },
-    }
 }
 
 fn of_store(cat: &[u8], store: &[u8]) -> Found {
@@ -29,28 +19,37 @@ fn of_store(cat: &[u8], store: &[u8]) -> Found {
     }
 }
 
-fn of_view(view: &[u8]) -> Found {
-    match view::check(view) {
-        view::Verdict::Refused(number, place) => Found { number, place },
-        view::Verdict::Records(_) => Found {
-            number: 0,
-            place: 0,
+// The refusal of a view over a catalogue, or of the catalogue: structure, then names and types.
+fn of_view(cat: &[u8], view: &[u8], k: u16) -> Found {
+    match catalogue::check(cat) {
+        catalogue::Verdict::Refused(number, place) => Found { number, place },
+        catalogue::Verdict::Tables(tables) => match view::check(view) {
+            view::Verdict::Refused(number, place) => Found { number, place },
+            view::Verdict::Records(n) => {
+                let nc = word::u16_at(cat, 6) as usize;
+                let starts = catalogue::starts(cat, nc);
+                let f = resolve::Files { nc, tables, n, k };
+                match resolve::whole(cat, &starts, view, f) {
+                    resolve::Verdict::Refused(number, place) => Found { number, place },
+                    resolve::Verdict::Fine => Found {
+                        number: 0,
+                        place: 0,
+                    },
+                }
+            }
         },
     }
 }
 
 // The first refusal of a job: 1 Translate, 2 Answer.
-fn first(job: u16, cat: &[u8], view: &[u8], store: &[u8]) -> Found {
-    let files = if job == 1 {
-        of_catalogue(cat)
-    } else {
-        of_store(cat, store)
-    };
-    if files.number == 0 {
-        of_view(view)
-    } else {
-        files
+fn first(job: u16, k: u16, cat: &[u8], view: &[u8], store: &[u8]) -> Found {
+    if job == 2 {
+        let files = of_store(cat, store);
+        if files.number != 0 {
+            return files;
+        }
     }
+    of_view(cat, view, k)
 }
 
 fn wide(x: u16) -> u64 {
@@ -76,7 +75,7 @@ fn run(case: Case) {
     let c = cases::load(&mut cat, case.cat);
     let v = cases::load(&mut view, case.view);
     let s = cases::load(&mut store, case.store);
-    show(first(case.job, &cat[..c], &view[..v], &store[..s]));
+    show(first(case.job, case.k, &cat[..c], &view[..v], &store[..s]));
 }
 
 // One case; whether there was one.

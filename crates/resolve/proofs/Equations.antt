@@ -1,30 +1,28 @@
 -- ONE EQUATION FOR EACH KIND: the walk's answer at a record, from its answers at the children.
 -- Assumes nothing.
 use Prim.Native.Nat.{ℕ, _+_, _-_}
-use mathlib.Core.Path.{_≡_, refl, sym, ap, _∙_}
+use mathlib.Core.Path.{_≡_, refl, ap, _∙_}
 use mathlib.Core.Bool.{Bool, true, false, cond}
-use mathlib.Core.List.{List, [], _∷_}
+use mathlib.Core.List.{List, _∷_}
 use lib.Dec.{eqb}
-use lib.ListN.{getD}
 use Rattle.class.specs.declared.Info.{Info}
-use Rattle.class.specs.declared.Info.the-variants.{Fixed, Bound}
+use Rattle.class.specs.declared.Info.the-variants.{Fixed}
 use Rattle.cell.specs.Res.{Res, stuck, done}
 use Rattle.cell.specs.Types.{kindOf, digitsOf, binopType, limbType}
 use Rattle.cell.specs.declared.Type.{«Type» as Ty}
 use Rattle.cell.specs.declared.Type.the-variants as T
 use Rattle.cell.specs.declared.Value.{Value}
 use Rattle.catalogue.specs.Tables.{Table, TabRef}
-use Rattle.view.specs.Ast.{TabName, Exp, Parsed, ok, refused}
+use Rattle.view.specs.Ast.{TabName, Exp, Parsed, ok}
 use Rattle.view.specs.Ast as ast
 use Rattle.view.proofs.Read.{One, Two, Three}
 use Rattle.scope.specs.Scopes.{Open, local, Hit, column, bound, Only, none, one, more, find}
 use Rattle.scope.specs.Table.{foundOf}
-use Rattle.scope.specs.Blocks.{Tabs, all, missing, tablesNamed, opened}
+use Rattle.scope.specs.Blocks.{all, missing, tablesNamed, opened}
 use Rattle.resolve.specs.Expr.{Expr}
-use Rattle.resolve.specs.Expr as expr
 use Rattle.resolve.specs.Resolve.{Out, good, bad, then, colOut, classOut, onTabs, ruled, needBool, brought, resolve}
 use Rattle.resolve.specs.Typed.{knownOf, typedAt, typedBy}
-use Rattle.resolve.specs.Steps.{leafK, twoK, notK, broughtK, ifK, letK, existsK, singleK, ruledT, boolT, twoT, notT, ifT, existsT, singleT, colT, classT}
+use Rattle.resolve.specs.Steps.{leafK, broughtK, ifK, letK, ruledT, boolT, twoT, notT, ifT, existsT, singleT, colT, classT}
 use Rattle.resolve.specs.declared.Known.{Known}
 use Rattle.resolve.specs.declared.Typed.{Typed}
 use Rattle.resolve.specs.declared.Typed.the-variants as typed

@@ -14,16 +14,15 @@ use Rattle.cell.specs.declared.Type.{«Type» as Ty}
 use Rattle.cell.specs.declared.Type.the-variants as T
 use Rattle.cell.specs.declared.Value.{Value}
 use Rattle.catalogue.specs.Tables.{Table, Column, TabRef}
-use Rattle.view.specs.Ast.{TabName, Exp, Block, Parsed, ok, refused}
+use Rattle.view.specs.Ast.{TabName, Exp, Block, Parsed, ok}
 use Rattle.view.specs.Ast as ast
 use Rattle.scope.specs.Scopes.{Open, local, Hit, column, bound, Only, none, one, more, find}
 use Rattle.scope.specs.Blocks.{Tabs, all, missing, tablesNamed, opened}
 use Rattle.resolve.specs.Expr.{Expr, Select}
 use Rattle.resolve.specs.Expr as expr
-use Rattle.resolve.specs.Resolve.{Out, good, bad, then, colOut, classOut, onTabs, ruled, needBool, brought, resolve, Outs, goods, bads, alsoOut, resolveAll, Resolved, select, refused as denied, withValues, withTest, withTabs, resolveView}
+use Rattle.resolve.specs.Resolve.{Out, good, bad, then, colOut, classOut, onTabs, ruled, needBool, brought, resolve, Outs, goods, bads, alsoOut, resolveAll, select, refused as denied, withValues, withTest, withTabs, resolveView}
 use Rattle.resolve.specs.Typed.{knownOf, typedAt, typedBy}
 use Rattle.resolve.specs.declared.Known.{Known}
-use Rattle.resolve.specs.declared.Typed.{Typed}
 use Rattle.resolve.specs.declared.Typed.the-variants as typed
 
 -- A refusal is not an acceptance.

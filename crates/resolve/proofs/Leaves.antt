@@ -1,13 +1,11 @@
 -- The functions of `steps`: one law for each way out, over what the code has found there.
 -- Assumes nothing.
-use Prim.Native.Nat.{ℕ, _+_, min}
+use Prim.Native.Nat.{ℕ, _+_}
 use mathlib.Core.Path.{_≡_, refl, sym, ap, _∙_}
-use mathlib.Core.Bool.{Bool, true, false, cond}
-use mathlib.Core.List.{List, [], _∷_}
+use mathlib.Core.Bool.{Bool, true, false}
 use native.Mathlib.Omega.{arith}
 use borrow.Author.Needs.{needs}
 use borrow.Author.Tests.{eq-eqb, ne-eqb}
-use lib.Dec.{eqb}
 use Rattle.class.specs.Info.{joinI, choiceI}
 use Rattle.class.specs.declared.Info.{Info}
 use Rattle.class.specs.declared.Info.the-variants.{Fixed, Bound}
@@ -23,9 +21,8 @@ use Rattle.resolve.specs.Sizes.{sizedI, weighed, joinW, choiceW, bindSiz
 use Rattle.resolve.specs.Steps.{classOf, stopped, knownBy, leafK, twoK, notK, broughtK, ifK, letK, ruledT, boolT, twoT, notT, ifT, colT, classT}
 use Rattle.resolve.specs.declared.Weighed.{Weighed}
 use Rattle.resolve.specs.declared.Known.{Known}
-use Rattle.resolve.specs.declared.Typed.{Typed}
 use Rattle.resolve.specs.declared.Typed.the-variants as typed
-use Rattle.resolve.proofs.Weights.{Alike, alike-refl, alike-trans, sized-alike, weighed-alike, join-alike, choice-alike, let-alike, known-alike}
+use Rattle.resolve.proofs.Weights.{Alike, alike-refl, alike-trans, weighed-alike, join-alike, known-alike}
 
 -- SIZES.
 module _ (i : Info) (n : ℕ) where

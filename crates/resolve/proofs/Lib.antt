@@ -1,3 +1,5 @@
+-- The laws of the walk. For the layers above: Inversion has what an accepted value tells of its parts, Equations one equation for each kind,
+-- Weights what is known of an expression from its parts; the rest serves the proofs of the functions. Assumes nothing.
 pub mod Inversion
 pub mod Weights
 pub mod Leaves

@@ -1,9 +1,9 @@
 -- The root's block and the whole view: one law for each place of the code.
 -- Assumes nothing.
-use Prim.Native.Nat.{ℕ, zero, suc, _+_, _-_, _*_, _<_, _≤_}
+use Prim.Native.Nat.{ℕ, _+_, _-_, _*_, _<_, _≤_}
 use mathlib.Core.Path.{_≡_, refl, sym, ap, _∙_}
 use mathlib.Core.Bool.{Bool, true, false, not, cond}
-use mathlib.Core.List.{List, [], _∷_, map}
+use mathlib.Core.List.{List, [], _∷_}
 use native.Mathlib.Omega.{arith}
 use borrow.Author.Needs.{needs}
 use borrow.Author.Tests.{eq-eqb, ne-eqb}
@@ -11,30 +11,28 @@ use types.Run.{OneOf, miss}
 use lib.Dec.{eqb}
 use lib.ListN.{length, replicate}
 use Rattle.word.specs.Header.{countAt}
-use Rattle.class.specs.declared.Info.{Info}
-use Rattle.class.specs.declared.Info.the-variants.{Fixed}
 use Rattle.cell.specs.Types.{kindOf}
 use Rattle.cell.specs.declared.Type.{«Type» as Ty}
 use Rattle.catalogue.specs.Tables.{Table, TabRef, tablesFrom}
-use Rattle.view.specs.Ast.{TabName, Exp, Block, Parsed, ok, refused, WasRead}
+use Rattle.view.specs.Ast.{TabName, Exp, Block, Parsed, ok}
 use Rattle.view.specs.Record.{nodeAt}
-use Rattle.view.specs.Parse.{many, namesAt, parseBlock, parseValue, parseView, checkOf}
+use Rattle.view.specs.Parse.{many, namesAt, parseBlock, parseValue, parseView}
 use Rattle.view.specs.declared.Node.{Node}
 use Rattle.view.specs.declared.Node.the-variants.{Select as SelectNode}
 use Rattle.view.proofs.Read.{InBlock, block-ok, here-ok, was-read, more-ok, none-ok}
 use Rattle.view.proofs.Says.{select-few}
 use Rattle.view.proofs.Whole.{Taken, taken, taken-count, select-read}
 use Rattle.scope.specs.Scopes.{Open}
-use Rattle.scope.specs.Table.{openOf, scopesOf, infosOf}
-use Rattle.scope.specs.Blocks.{Tabs, all, missing, tablesNamed, refsOf, opened}
+use Rattle.scope.specs.Table.{scopesOf, infosOf}
+use Rattle.scope.specs.Blocks.{Tabs, tablesNamed, refsOf, opened}
 use Rattle.scope.specs.Entry.{openedBy}
 use Rattle.scope.specs.declared.Scope.{Scope}
 use Rattle.scope.specs.declared.Opened.{Opened}
 use Rattle.scope.proofs.Named.{BlockOpened, block-missing, block-opened}
 use Rattle.resolve.specs.Expr.{Expr}
 use Rattle.resolve.specs.Resolve.{Out, good, bad, resolve, Outs, goods, bads, alsoOut, resolveAll, select, refused as denied, withValues, withTest, withTabs, resolveView}
-use Rattle.resolve.specs.Typed.{knownOf, typedBy}
-use Rattle.resolve.specs.Claims.{Lent, Ready, answerAt, Accepted, Rooted, Several, resolvedBy, resolvedAll, verdictOf, verdictAll}
+use Rattle.resolve.specs.Typed.{knownOf}
+use Rattle.resolve.specs.Claims.{Ready, answerAt, Accepted, Rooted, Several, resolvedBy, resolvedAll, verdictOf, verdictAll}
 use Rattle.resolve.specs.declared.Files.{Files}
 use Rattle.resolve.specs.declared.Known.{Known}
 use Rattle.resolve.specs.declared.Typed.{Typed}
@@ -258,7 +256,6 @@ module _ (c ss v : List ℕ) (f : Files) (w : Accepted c ss v f) where
           lent = record { cat-long = w .cat-long; cat-few = w .cat-few; starts = w .starts; view-long = omega arith; view-few = omega arith };
           some-tables = m .0;
           few-tables = m .1;
-          few-values = m .3;
           is-read = select-read v whole-taken e count-is g;
         }
 

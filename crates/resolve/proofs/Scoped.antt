@@ -1,28 +1,25 @@
 -- The walk where a scope opens, LET and the blocks: one law for each place of its code.
 -- Assumes nothing.
-use Prim.Native.Nat.{ℕ, zero, suc, _+_, _-_, _*_, _<_, _≤_}
+use Prim.Native.Nat.{ℕ, _+_, _-_, _*_, _<_, _≤_}
 use mathlib.Core.Path.{_≡_, refl, sym, ap, _∙_}
 use mathlib.Core.Bool.{Bool, true, false, not}
-use mathlib.Core.List.{List, [], _∷_, map}
+use mathlib.Core.List.{List, _∷_, map}
 use native.Mathlib.Omega.{arith}
 use lib.ListN.{length, set, length-set}
-use Rattle.class.specs.declared.Info.{Info}
-use Rattle.class.specs.declared.Info.the-variants.{Fixed, Bound}
-use Rattle.cell.specs.declared.Type.{«Type» as Ty}
-use Rattle.catalogue.specs.Tables.{Table, TabRef, tablesFrom}
-use Rattle.catalogue.specs.Starts.{StartsAre}
-use Rattle.view.specs.Ast.{TabName, Exp, Parsed, ok, refused, WasRead}
+use Rattle.class.specs.declared.Info.the-variants.{Fixed}
+use Rattle.catalogue.specs.Tables.{Table, tablesFrom}
+use Rattle.view.specs.Ast.{Exp, WasRead}
 use Rattle.view.specs.Ast as ast
 use Rattle.view.specs.Record.{nodeAt}
 use Rattle.view.specs.Parse.{namesAt, parseValue}
 use Rattle.view.specs.declared.Node.{Node}
 use Rattle.view.specs.declared.Node.the-variants.{Exists, Single, Let}
 use Rattle.view.proofs.Read as read
-use Rattle.view.proofs.Read.{One, Two, Listed, here-ok, was-read}
+use Rattle.view.proofs.Read.{One, Two, Listed, was-read}
 use Rattle.view.proofs.Says.{exists-few, single-few}
-use Rattle.scope.specs.Scopes.{Open, block, local}
+use Rattle.scope.specs.Scopes.{local}
 use Rattle.scope.specs.Table.{openOf, scopesOf, infosOf}
-use Rattle.scope.specs.Blocks.{Tabs, all, missing, tablesNamed, refsOf, opened}
+use Rattle.scope.specs.Blocks.{Tabs, missing, tablesNamed, refsOf, opened}
 use Rattle.scope.specs.Entry.{localScope, openedBy, tablesIn}
 use Rattle.scope.specs.declared.Scope.{Scope}
 use Rattle.scope.specs.declared.Opened.{Opened}
@@ -30,7 +27,7 @@ use Rattle.scope.proofs.Pushes as push
 use Rattle.scope.proofs.Named.{BlockOpened, block-missing, block-opened, names-length}
 use Rattle.resolve.specs.Typed.{typedBy}
 use Rattle.resolve.specs.Steps.{letK, refsTo, existsT, singleT}
-use Rattle.resolve.specs.Claims.{Lent, Ready, Opening, answerAt, blockNode}
+use Rattle.resolve.specs.Claims.{Ready, Opening, answerAt, blockNode}
 use Rattle.resolve.specs.declared.Files.{Files}
 use Rattle.resolve.specs.declared.Known.{Known}
 use Rattle.resolve.specs.declared.Typed.{Typed}

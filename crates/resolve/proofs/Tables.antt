@@ -1,14 +1,12 @@
 -- A block's tables as the walk knows them: their rows' weights joined in order, and what is known of a block; one law for each place of the code.
 -- Assumes nothing.
-use Prim.Native.Nat.{ℕ, zero, suc, _+_, _-_, _*_, _<_, _≤_, min}
+use Prim.Native.Nat.{ℕ, zero, suc, _+_, _-_, _<_, _≤_, min}
 use mathlib.Core.Path.{_≡_, refl, sym, ap, _∙_}
-use mathlib.Core.Bool.{Bool, true, false, cond}
 use mathlib.Core.List.{List, [], _∷_, _++_, map}
 use native.Mathlib.Omega.{arith}
 use native.Mathlib.Numerals.{add-one}
 use borrow.Author.Needs.{needs}
 use borrow.Author.Tests.{eq-eqb, ne-eqb}
-use lib.Dec.{eqb}
 use lib.ListN.{length, getD, drop, drop-of-length-le}
 use lib.Seq.{drop-cons}
 use Rattle.class.specs.Class.{lubAll}
@@ -16,11 +14,10 @@ use Rattle.class.specs.Info.{boundOf}
 use Rattle.class.specs.declared.Info.{Info}
 use Rattle.class.specs.declared.Info.the-variants.{Fixed, Bound}
 use Rattle.cell.specs.Types.{kindOf}
-use Rattle.cell.specs.declared.Type.{«Type» as Ty}
 use Rattle.cell.specs.declared.Type.the-variants as T
 use Rattle.catalogue.specs.Tables.{Table, TabRef}
 use Rattle.scope.specs.Table.{tabsAt, openOf}
-use Rattle.scope.specs.Entry.{tablesIn, rowsOf, classesOf, Among}
+use Rattle.scope.specs.Entry.{tablesIn, rowsOf, classesOf}
 use Rattle.scope.specs.declared.Scope.{Scope}
 use Rattle.scope.proofs.Block.{tables-in}
 use Rattle.resolve.specs.Infos.{tableClass}
@@ -29,7 +26,6 @@ use Rattle.resolve.specs.Steps.{classOf, stopped, knownBy, aggW, refsTo,
 use Rattle.resolve.specs.Claims.{Opening}
 use Rattle.resolve.specs.declared.Weighed.{Weighed}
 use Rattle.resolve.specs.declared.Known.{Known}
-use Rattle.resolve.specs.declared.Typed.{Typed}
 use Rattle.resolve.specs.declared.Typed.the-variants as typed
 use Rattle.resolve.proofs.Weights.{Alike, alike-refl, alike-trans, all-refl, joins-alike, weighed-alike, join-alike, choice-alike, agg-alike, known-alike}
 use Rattle.resolve.proofs.Leaves.{stopped-alike, alike-stopped}
@@ -73,9 +69,6 @@ class-of [] = refl
 class-of (t ∷ ts) = rw (class-of ts)
 
 module _ (ts : List TabRef) where
-  abbrev own : List TabRef
-  own = refsTo (map (λ t. t .table) ts)
-
   own-rows : rowsW ts ≡ rowsW (refsTo (map (λ t. t .table) ts))
   own-rows = rows-of ts ∙ sym (rows-are (map (λ t. t .table) ts))
 

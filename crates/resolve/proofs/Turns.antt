@@ -1,38 +1,36 @@
 -- The walk: one law for each place of its code. Its premises are what the code has found there.
 -- Assumes nothing.
-use Prim.Native.Nat.{ℕ, zero, suc, _+_, _-_, _*_, _<_, _≤_}
-use mathlib.Core.Path.{_≡_, refl, sym, ap, _∙_}
-use mathlib.Core.Bool.{Bool, true, false, cond}
-use mathlib.Core.List.{List, [], _∷_}
+use Prim.Native.Nat.{ℕ, _+_, _-_, _≤_}
+use mathlib.Core.Path.{_≡_, sym, ap, _∙_}
+use mathlib.Core.List.{List}
 use native.Mathlib.Omega.{arith}
-use lib.ListN.{length, set, length-set}
+use lib.ListN.{length}
 use Rattle.class.specs.declared.Info.{Info}
-use Rattle.class.specs.declared.Info.the-variants.{Fixed, Bound}
+use Rattle.class.specs.declared.Info.the-variants.{Fixed}
 use Rattle.cell.specs.declared.Type.{«Type» as Ty}
 use Rattle.cell.specs.declared.Value.{Value}
-use Rattle.catalogue.specs.Tables.{Table, tablesFrom}
-use Rattle.catalogue.specs.Starts.{StartsAre}
-use Rattle.view.specs.Ast.{TabName, Exp, Parsed, ok, refused, WasRead}
+use Rattle.catalogue.specs.Tables.{Table}
+use Rattle.view.specs.Ast.{Exp, Parsed, ok, WasRead}
 use Rattle.view.specs.Ast as ast
 use Rattle.view.specs.Record.{nodeAt}
 use Rattle.view.specs.Parse.{parseValue}
 use Rattle.view.specs.declared.Node.{Node}
-use Rattle.view.specs.declared.Node.the-variants.{Const, Binop, Not, If, Exists, Single, Table as Tab, Select, Col, Classof, Let, Bad}
+use Rattle.view.specs.declared.Node.the-variants.{Const, Binop, Not, If, Table as Tab, Select, Col, Classof, Bad}
 use Rattle.view.proofs.Read as read
-use Rattle.view.proofs.Read.{One, Two, Three, here-ok, was-read}
-use Rattle.scope.specs.Scopes.{Open, local, find}
-use Rattle.scope.specs.Table.{openOf, scopesOf, infosOf, foundOf}
+use Rattle.view.proofs.Read.{Two, Three, here-ok, was-read}
+use Rattle.scope.specs.Scopes.{Open, find}
+use Rattle.scope.specs.Table.{scopesOf, infosOf, foundOf}
 use Rattle.scope.specs.declared.Scope.{Scope}
 use Rattle.scope.specs.declared.Found.{Found}
-use Rattle.resolve.specs.Typed.{knownOf, typedAt, typedBy}
-use Rattle.resolve.specs.Steps.{leafK, letK, twoT, notT, ifT, colT, classT}
-use Rattle.resolve.specs.Claims.{Lent, Ready, answerAt}
+use Rattle.resolve.specs.Typed.{knownOf, typedBy}
+use Rattle.resolve.specs.Steps.{leafK, twoT, notT, ifT, colT, classT}
+use Rattle.resolve.specs.Claims.{Ready, answerAt}
 use Rattle.resolve.specs.declared.Files.{Files}
 use Rattle.resolve.specs.declared.Known.{Known}
 use Rattle.resolve.specs.declared.Typed.{Typed}
 use Rattle.resolve.specs.declared.Typed.the-variants as typed
 use Rattle.resolve.proofs.Inversion.{typed-known}
-use Rattle.resolve.proofs.Equations.{thenT, const-step, col-step, classof-step, not-step, binop-step, if-step, let-step}
+use Rattle.resolve.proofs.Equations.{thenT, const-step, col-step, classof-step, not-step, binop-step, if-step}
 
 -- a chain, by what its first link answered
 pub then-is : (l : Typed) (x : Known) (g : Known → Typed) → l ≡ typed.Is x → thenT l g ≡ g x

@@ -1,6 +1,6 @@
 -- Sizes that stop just above 8,190: what is known of an expression follows from what is known of its parts, one law for each kind.
 -- Assumes nothing.
-use Prim.Native.Nat.{ℕ, _+_, min}
+use Prim.Native.Nat.{ℕ, _+_}
 use mathlib.Core.Path.{_≡_, refl, sym, ap, _∙_}
 use mathlib.Core.Bool.{Bool, true, false, cond}
 use mathlib.Core.List.{List, [], _∷_, _++_, map}
@@ -13,7 +13,7 @@ use Rattle.cell.specs.Types.{digitsOf, scaleOf, sameType}
 use Rattle.cell.specs.declared.Type.{«Type» as Ty}
 use Rattle.cell.specs.declared.Type.the-variants as T
 use Rattle.cell.specs.declared.Value.{Value}
-use Rattle.catalogue.specs.Tables.{Table, TabRef}
+use Rattle.catalogue.specs.Tables.{TabRef}
 use Rattle.resolve.specs.Expr.{Expr}
 use Rattle.resolve.specs.Expr as expr
 use Rattle.resolve.specs.Resolve.{brought}

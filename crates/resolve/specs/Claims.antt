@@ -86,7 +86,6 @@ pub record Rooted (c ss v : List ℕ) (f : Files) (tables values : ℕ) : Type 0
   pub lent : Lent c ss v f
   pub some-tables : 1 ≤ tables
   pub few-tables : tables ≤ 4
-  pub few-values : values ≤ 32
   pub is-read : WasRead (parseBlock v (f .n) 15 (parseValue v (f .n) 15) tables values 1)
 
 -- so many values were read from a record on, under the root's scope alone

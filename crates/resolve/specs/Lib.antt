@@ -1,3 +1,5 @@
+-- The definitions of names and types: Expr and Resolve have the rules, Infos and Sizes what is known of a class and of the trees,
+-- Typed the walk's answer, Steps its steps, Claims what it requires. Assumes nothing.
 pub mod Expr
 pub mod Resolve
 pub mod Infos

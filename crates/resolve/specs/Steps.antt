@@ -1,7 +1,7 @@
 -- What is known of a value from what is known of its parts, one definition for each kind of node. Wherever sizes are added they stop just above 8,190.
 -- Assumes nothing.
 use Prim.Native.Nat.{ℕ, _+_}
-use mathlib.Core.Bool.{Bool, true, false, cond}
+use mathlib.Core.Bool.{cond}
 use mathlib.Core.List.{List, [], _∷_, map}
 use lib.ListN.{length}
 use lib.Dec.{eqb}

@@ -1,6 +1,6 @@
 -- `resolve::blocks::rows` meets its contract: what is joined so far, and the rows that are left, come to all.
 -- Assumes nothing.
-use Prim.Native.Nat.{_-_, _≤_}
+use Prim.Native.Nat.{_-_}
 use borrow.Author.Needs.{needs}
 use Rattle.scope.specs.Table.{openOf}
 use Rattle.scope.specs.Entry.{tablesIn}

@@ -1,0 +1,9 @@
+-- `run::words::end_at` meets its contract.
+-- Assumes nothing.
+use borrow.Author.Needs.{needs}
+use Rattle.run.proofs.Records.{fields}
+use Rattle.run.proofs.words.end_at.Statement.{statement}
+use Rattle.run.proofs.words.end_at.Tie as tie
+
+pub end-at-spec : {M : Type 1} → statement M
+end-at-spec = tie.close (tie.spec (λ c. search needs) (λ c. search needs) (λ c. search needs) (λ c. search fields))

@@ -1,0 +1,296 @@
+-- `tree::write_d`, `tree::write_limb` and `tree::write_block` meet their contracts: one law for each place of the code; the depth left is the measure.
+-- Assumes nothing.
+use borrow.Author.Needs.{needs}
+use native.Mathlib.Omega.{arith}
+use mathlib.Core.Path.{_∙_}
+use Prim.Native.Nat.{ℕ, _+_, _*_, _<_}
+use Rattle.word.proofs.Writing.{kept}
+use Rattle.resolve.proofs.Scoped.{exists-node, single-node, push-room, block-room, block-next, block-few}
+use Rattle.tree.proofs.Accepted.{no-table, no-select, no-bad}
+use Rattle.tree.proofs.Leaves.{room-some}
+use Rattle.tree.proofs.Turns.{conv-asks, limb-asks, limb-done, const-asks, const-done, col-asks, col-done, class-asks, class-done, not-asks, not-done, left-asks, right-asks, binop-done, test-asks, yes-asks, no-asks, if-done, let-value, value-asks, body-asks, let-done, tables-ask, where-asks, exists-done, single-asks, single-done}
+use borrow.Fn.Kinds.{In}
+use borrow.Fn.PlainCycle.{Measures, is, falls, and}
+use Rattle.tree.proofs.write_block.Reads as write-block
+use Rattle.tree.proofs.write_block.Kinds as write-block-kinds
+use Rattle.tree.proofs.+write_block+write_d+write_limb.Lts-write_block as write-block-lts
+use Rattle.tree.proofs.write_d.Reads as write-d
+use Rattle.tree.proofs.write_d.Kinds as write-d-kinds
+use Rattle.tree.proofs.+write_block+write_d+write_limb.Lts-write_d as write-d-lts
+use Rattle.tree.proofs.write_limb.Reads as write-limb
+use Rattle.tree.proofs.write_limb.Kinds as write-limb-kinds
+use Rattle.tree.proofs.+write_block+write_d+write_limb.Lts-write_limb as write-limb-lts
+use Rattle.scope.proofs.open_block.Reads as open-block-reads
+use Rattle.scope.proofs.find.Reads as find-reads
+use Rattle.scope.proofs.pushed.Reads as pushed-reads
+use Rattle.tree.proofs.known.digits_at.Reads as digits-at-reads
+use Rattle.tree.proofs.known.local_at.Reads as local-at-reads
+use Rattle.tree.proofs.known.type_at.Reads as type-at-reads
+use Rattle.tree.proofs.records.block_kind.Reads as block-kind-reads
+use Rattle.tree.proofs.records.copy_const.Reads as copy-const-reads
+use Rattle.tree.proofs.records.put_cell_class.Reads as put-cell-class-reads
+use Rattle.tree.proofs.records.put_column.Reads as put-column-reads
+use Rattle.tree.proofs.records.put_conv.Reads as put-conv-reads
+use Rattle.tree.proofs.records.table_recs.Reads as table-recs-reads
+use Rattle.view.proofs.node_at.Reads as node-at-reads
+use Rattle.word.proofs.put_rec.Reads as put-rec-reads
+use Rattle.tree.proofs.+write_block+write_d+write_limb.{statement}
+use Rattle.tree.proofs.+write_block+write_d+write_limb.Tie.{close}
+
+abbrev μ-write-block : Measures 4 write-block-kinds.ps ℕ
+μ-write-block κs a = 3 * a .1 .1 .1 .1 .1 .0
+
+abbrev μ-write-d : Measures 4 write-d-kinds.ps ℕ
+μ-write-d κs a = 3 * a .1 .1 .1 .1 .1 .0 + 1
+
+abbrev μ-write-limb : Measures 4 write-limb-kinds.ps ℕ
+μ-write-limb κs a = 3 * a .1 .1 .1 .1 .1 .0 + 2
+
+abbrev write-block-at : ℕ → In 4 write-block-kinds.ps
+write-block-at t =
+    and 4 write-block-kinds.ps (is 4 write-block-kinds.ps μ-write-block t) write-block.Pre
+
+abbrev write-block-below : ℕ → In 4 write-block-kinds.ps
+write-block-below t =
+    and 4 write-block-kinds.ps (falls 4 write-block-kinds.ps _<_ μ-write-block t) write-block.Pre
+
+abbrev write-d-at : ℕ → In 4 write-d-kinds.ps
+write-d-at t = and 4 write-d-kinds.ps (is 4 write-d-kinds.ps μ-write-d t) write-d.Pre
+
+abbrev write-d-below : ℕ → In 4 write-d-kinds.ps
+write-d-below t = and 4 write-d-kinds.ps (falls 4 write-d-kinds.ps _<_ μ-write-d t) write-d.Pre
+
+abbrev write-limb-at : ℕ → In 4 write-limb-kinds.ps
+write-limb-at t =
+    and 4 write-limb-kinds.ps (is 4 write-limb-kinds.ps μ-write-limb t) write-limb.Pre
+
+abbrev write-limb-below : ℕ → In 4 write-limb-kinds.ps
+write-limb-below t =
+    and 4 write-limb-kinds.ps (falls 4 write-limb-kinds.ps _<_ μ-write-limb t) write-limb.Pre
+
+pub +write-block+write-d+write-limb-spec : {M : Type 1} → statement M
++write-block+write-d+write-limb-spec =
+    close μ-write-block μ-write-d μ-write-limb (λ t. write-block-lts.spec (
+      open-block-reads.Asked,
+      open-block-reads.Learnt,
+      pushed-reads.Asked,
+      pushed-reads.Learnt,
+      block-kind-reads.Asked,
+      block-kind-reads.Learnt,
+      put-rec-reads.Asked,
+      put-rec-reads.Learnt,
+      table-recs-reads.Asked,
+      table-recs-reads.Learnt,
+      write-d-below t,
+      write-d.Post,
+    )
+    (write-block-at t)
+    write-block.Post
+    -- add-next
+    (λ c. search needs)
+    -- sub-down
+    (λ c. search needs)
+    -- open-block-requires
+    (λ c κs. (search needs, (search needs, (block-room _ _ _ _ _ _ _ _ (c .before .before .before .pre .1 .0 .0 .ready) _ _ (c .before .before .before .pre .1 .0 .1), block-few _ _ _ _ _ _ _ _ (c .before .before .before .pre .1 .0 .0 .ready) _ _ (c .before .before .before .pre .1 .0 .1)))))
+    -- pushed-requires
+    (λ c κs. search needs)
+    -- block-kind-requires
+    (λ c κs. search needs)
+    -- cast-put-rec
+    (λ c. let h = block-few _ _ _ _ _ _ _ _ (c .before .before .before .before .before .before .before .before .pre .1 .0 .0 .ready) _ _ (c .before .before .before .before .before .before .before .before .pre .1 .0 .1) in search needs)
+    -- put-rec-requires
+    (λ c κs. room-some _ (c .before .before .before .before .before .before .before .before .pre .1 .1))
+    -- table-recs-requires
+    (λ c κs. tables-ask _ _ _ _ _ _ _ _ (c .before .before .before .before .before .before .before .before .before .before .before .before .pre .1 .0 .0) (c .before .before .before .before .before .before .before .before .before .before .before .before .pre .1 .1) _ _ (c .before .before .before .before .before .before .before .before .before .before .before .before .pre .1 .0 .1) _ (c .before .before .before .before .before .before .before .before .open-block .ensures) _ (c .before .before .before .before .before .before .pushed .ensures) _ (c .before .before .before .before .before .block-kind .ensures) (c .before .before .before .put-rec .ensures))
+    -- add-write-d
+    (λ c. let h = block-next _ _ _ _ _ _ _ _ (c .before .before .before .before .before .before .before .before .before .before .before .before .before .before .before .pre .1 .0 .0 .ready) _ _ (c .before .before .before .before .before .before .before .before .before .before .before .before .before .before .before .pre .1 .0 .1) in omega arith)
+    -- add-write-d-2
+    (λ c. let h = push-room _ _ _ _ _ _ _ _ (c .before .before .before .before .before .before .before .before .before .before .before .before .before .before .before .pre .1 .0 .0 .ready) in omega arith)
+    -- write-d-requires
+    (λ c κs. (omega (arith, c .before .before .before .before .before .before .before .before .before .before .before .before .before .before .before .before .pre .0, c .before .before .before .before .before .before .before .before .before .before .before .before .before .before .before .before .pre .1 .0 .0 .ready .left), where-asks _ _ _ _ _ _ _ _ (c .before .before .before .before .before .before .before .before .before .before .before .before .before .before .before .before .pre .1 .0 .0) (c .before .before .before .before .before .before .before .before .before .before .before .before .before .before .before .before .pre .1 .1) _ _ (c .before .before .before .before .before .before .before .before .before .before .before .before .before .before .before .before .pre .1 .0 .1) _ (c .before .before .before .before .before .before .before .before .before .before .before .before .open-block .ensures) _ (c .before .before .before .before .before .before .before .before .before .before .pushed .ensures) _ (c .before .before .before .before .before .before .before .before .before .block-kind .ensures) (c .before .before .before .before .before .before .before .put-rec .ensures) (c .before .before .before .table-recs .ensures)))
+    -- add-write-d-3
+    (λ c. let h = push-room _ _ _ _ _ _ _ _ (c .before .before .before .before .before .before .before .before .before .before .before .before .before .before .before .before .before .before .before .before .pre .1 .0 .0 .ready) in omega arith)
+    -- write-d-requires-2
+    (λ c κs. (omega (arith, c .before .before .before .before .before .before .before .before .before .before .before .before .before .before .before .before .before .before .before .before .before .pre .0, c .before .before .before .before .before .before .before .before .before .before .before .before .before .before .before .before .before .before .before .before .before .pre .1 .0 .0 .ready .left), single-asks _ _ _ _ _ _ _ _ (c .before .before .before .before .before .before .before .before .before .before .before .before .before .before .before .before .before .before .before .before .before .pre .1 .0 .0) (c .before .before .before .before .before .before .before .before .before .before .before .before .before .before .before .before .before .before .before .before .before .pre .1 .1) _ _ (c .before .before .before .before .before .before .before .before .before .before .before .before .before .before .before .before .before .before .before .before .before .pre .1 .0 .1) _ (c .before .before .before .before .before .before .before .before .before .before .before .before .before .before .before .before .before .open-block .ensures) _ (c .before .before .before .before .before .before .before .before .before .before .before .before .before .before .before .pushed .ensures) _ (c .before .before .before .before .before .before .before .before .before .before .before .before .before .before .block-kind .ensures) (c .before .before .before .before .before .before .before .before .before .before .before .before .put-rec .ensures) (c .before .before .before .before .before .before .before .before .table-recs .ensures) (c .before .before .before .before .write-d .ensures .0) (c .before .before .before .before .write-d .ensures .1) (c .before .if1 .taken)))
+    -- same-length
+    (λ c. kept (c .before .before .write-d2 .ensures .1) ∙ kept (c .before .before .before .before .before .before .before .write-d .ensures .1) ∙ kept (c .before .before .before .before .before .before .before .before .before .before .before .table-recs .ensures) ∙ kept (c .before .before .before .before .before .before .before .before .before .before .before .before .before .before .before .put-rec .ensures))
+    -- returns
+    (λ c. single-done _ _ _ _ _ _ _ _ (c .before .before .before .before .before .before .before .before .before .before .before .before .before .before .before .before .before .before .before .before .before .before .before .before .pre .1 .0 .0) (c .before .before .before .before .before .before .before .before .before .before .before .before .before .before .before .before .before .before .before .before .before .before .before .before .pre .1 .1) _ _ (c .before .before .before .before .before .before .before .before .before .before .before .before .before .before .before .before .before .before .before .before .before .before .before .before .pre .1 .0 .1) _ (c .before .before .before .before .before .before .before .before .before .before .before .before .before .before .before .before .before .before .before .before .open-block .ensures) _ (c .before .before .before .before .before .before .before .before .before .before .before .before .before .before .before .before .before .before .pushed .ensures) _ (c .before .before .before .before .before .before .before .before .before .before .before .before .before .before .before .before .before .block-kind .ensures) (c .before .before .before .before .before .before .before .before .before .before .before .before .before .before .before .put-rec .ensures) (c .before .before .before .before .before .before .before .before .before .before .before .table-recs .ensures) (c .before .before .before .before .before .before .before .write-d .ensures .0) (c .before .before .before .before .before .before .before .write-d .ensures .1) (c .before .before .before .before .if1 .taken) (c .before .before .write-d2 .ensures .0) (c .before .before .write-d2 .ensures .1))
+    -- same-length-2
+    (λ c. kept (c .before .before .before .write-d .ensures .1) ∙ kept (c .before .before .before .before .before .before .before .table-recs .ensures) ∙ kept (c .before .before .before .before .before .before .before .before .before .before .before .put-rec .ensures))
+    -- returns-2
+    (λ c. exists-done _ _ _ _ _ _ _ _ (c .before .before .before .before .before .before .before .before .before .before .before .before .before .before .before .before .before .before .before .before .pre .1 .0 .0) (c .before .before .before .before .before .before .before .before .before .before .before .before .before .before .before .before .before .before .before .before .pre .1 .1) _ _ (c .before .before .before .before .before .before .before .before .before .before .before .before .before .before .before .before .before .before .before .before .pre .1 .0 .1) _ (c .before .before .before .before .before .before .before .before .before .before .before .before .before .before .before .before .open-block .ensures) _ (c .before .before .before .before .before .before .before .before .before .before .before .before .before .before .pushed .ensures) _ (c .before .before .before .before .before .before .before .before .before .before .before .before .before .block-kind .ensures) (c .before .before .before .before .before .before .before .before .before .before .before .put-rec .ensures) (c .before .before .before .before .before .before .before .table-recs .ensures) (c .before .before .before .write-d .ensures .0) (c .before .before .before .write-d .ensures .1) (c .if1 .left)))
+    (λ t. write-d-lts.spec (
+      node-at-reads.Asked,
+      node-at-reads.Learnt,
+      copy-const-reads.Asked,
+      copy-const-reads.Learnt,
+      digits-at-reads.Asked,
+      digits-at-reads.Learnt,
+      put-rec-reads.Asked,
+      put-rec-reads.Learnt,
+      write-d-below t,
+      write-d.Post,
+      type-at-reads.Asked,
+      type-at-reads.Learnt,
+      write-limb-below t,
+      write-limb.Post,
+      write-block-below t,
+      write-block.Post,
+      find-reads.Asked,
+      find-reads.Learnt,
+      put-column-reads.Asked,
+      put-column-reads.Learnt,
+      put-cell-class-reads.Asked,
+      put-cell-class-reads.Learnt,
+      local-at-reads.Asked,
+      local-at-reads.Learnt,
+      pushed-reads.Asked,
+      pushed-reads.Learnt,
+    )
+    (write-d-at t)
+    write-d.Post
+    -- add-next
+    (λ c. search needs)
+    -- sub-down
+    (λ c. search needs)
+    -- node-at-requires
+    (λ c κs. search needs)
+    -- enum-told
+    (λ c. search needs)
+    -- copy-const-requires
+    (λ c κs. (search needs, const-asks _ _ _ _ _ _ _ _ (c .before .before .before .before .before .before .before .pre .1 .0) _ (c .before .before .before .node-at .ensures) (c .before .before .before .before .before .before .before .pre .1 .1) (c .before .enum-told .given .1)))
+    -- enum-known-op
+    (λ c. search needs)
+    -- digits-at-requires
+    (λ c κs. c .before .before .before .before .before .before .before .pre .1 .0)
+    -- put-rec-requires
+    (λ c κs. room-some _ (c .before .before .before .before .before .before .before .before .before .pre .1 .1))
+    -- write-d-requires
+    (λ c κs. (omega (arith, c .before .before .before .before .before .before .before .before .before .before .before .before .before .pre .0, c .before .before .before .before .before .before .before .before .before .before .before .before .before .pre .1 .0 .ready .left), left-asks _ _ _ _ _ _ _ _ (c .before .before .before .before .before .before .before .before .before .before .before .before .before .pre .1 .0) _ (c .before .before .before .before .before .before .before .before .before .node-at .ensures) (c .before .before .before .before .before .before .before .before .before .before .before .before .before .pre .1 .1) (c .before .before .before .before .before .before .before .op .given .1) (c .before .before .before .before .before .digits-at .ensures) (c .before .before .before .put-rec .ensures)))
+    -- write-d-requires-2
+    (λ c κs. (omega (arith, c .before .before .before .before .before .before .before .before .before .before .before .before .before .before .before .before .before .pre .0, c .before .before .before .before .before .before .before .before .before .before .before .before .before .before .before .before .before .pre .1 .0 .ready .left), right-asks _ _ _ _ _ _ _ _ (c .before .before .before .before .before .before .before .before .before .before .before .before .before .before .before .before .before .pre .1 .0) _ (c .before .before .before .before .before .before .before .before .before .before .before .before .before .node-at .ensures) (c .before .before .before .before .before .before .before .before .before .before .before .before .before .before .before .before .before .pre .1 .1) (c .before .before .before .before .before .before .before .before .before .before .before .op .given .1) (c .before .before .before .before .before .before .before .before .before .digits-at .ensures) (c .before .before .before .before .before .before .before .put-rec .ensures) (c .before .before .before .write-d .ensures .0) (c .before .before .before .write-d .ensures .1)))
+    -- enum-told-2
+    (λ c. search needs)
+    -- put-rec-requires-2
+    (λ c κs. room-some _ (c .before .before .before .before .before .before .before .pre .1 .1))
+    -- write-d-requires-3
+    (λ c κs. (omega (arith, c .before .before .before .before .before .before .before .before .before .before .before .pre .0, c .before .before .before .before .before .before .before .before .before .before .before .pre .1 .0 .ready .left), not-asks _ _ _ _ _ _ _ _ (c .before .before .before .before .before .before .before .before .before .before .before .pre .1 .0) _ (c .before .before .before .before .before .before .before .node-at .ensures) (c .before .before .before .before .before .before .before .before .before .before .before .pre .1 .1) (c .before .before .before .before .before .enum-told2 .given .1) (c .before .before .before .put-rec2 .ensures)))
+    -- enum-told-3
+    (λ c. search needs)
+    -- type-at-requires
+    (λ c κs. c .before .before .before .before .before .before .pre .1 .0)
+    -- put-rec-requires-3
+    (λ c κs. room-some _ (c .before .before .before .before .before .before .before .before .pre .1 .1))
+    -- write-d-requires-4
+    (λ c κs. (omega (arith, c .before .before .before .before .before .before .before .before .before .before .before .before .pre .0, c .before .before .before .before .before .before .before .before .before .before .before .before .pre .1 .0 .ready .left), test-asks _ _ _ _ _ _ _ _ (c .before .before .before .before .before .before .before .before .before .before .before .before .pre .1 .0) _ (c .before .before .before .before .before .before .before .before .node-at .ensures) (c .before .before .before .before .before .before .before .before .before .before .before .before .pre .1 .1) (c .before .before .before .before .before .before .enum-told3 .given .1) (c .before .before .before .before .before .type-at .ensures) (c .before .before .before .put-rec3 .ensures)))
+    -- write-limb-requires
+    (λ c κs. (omega (arith, c .before .before .before .before .before .before .before .before .before .before .before .before .before .before .before .before .pre .0, c .before .before .before .before .before .before .before .before .before .before .before .before .before .before .before .before .pre .1 .0 .ready .left), yes-asks _ _ _ _ _ _ _ _ (c .before .before .before .before .before .before .before .before .before .before .before .before .before .before .before .before .pre .1 .0) _ (c .before .before .before .before .before .before .before .before .before .before .before .before .node-at .ensures) (c .before .before .before .before .before .before .before .before .before .before .before .before .before .before .before .before .pre .1 .1) (c .before .before .before .before .before .before .before .before .before .before .enum-told3 .given .1) (c .before .before .before .before .before .before .before .before .before .type-at .ensures) (c .before .before .before .before .before .before .before .put-rec3 .ensures) (c .before .before .before .write-d4 .ensures .0) (c .before .before .before .write-d4 .ensures .1)))
+    -- write-limb-requires-2
+    (λ c κs. (omega (arith, c .before .before .before .before .before .before .before .before .before .before .before .before .before .before .before .before .before .before .before .before .pre .0, c .before .before .before .before .before .before .before .before .before .before .before .before .before .before .before .before .before .before .before .before .pre .1 .0 .ready .left), no-asks _ _ _ _ _ _ _ _ (c .before .before .before .before .before .before .before .before .before .before .before .before .before .before .before .before .before .before .before .before .pre .1 .0) _ (c .before .before .before .before .before .before .before .before .before .before .before .before .before .before .before .before .node-at .ensures) (c .before .before .before .before .before .before .before .before .before .before .before .before .before .before .before .before .before .before .before .before .pre .1 .1) (c .before .before .before .before .before .before .before .before .before .before .before .before .before .before .enum-told3 .given .1) (c .before .before .before .before .before .before .before .before .before .before .before .before .before .type-at .ensures) (c .before .before .before .before .before .before .before .before .before .before .before .put-rec3 .ensures) (c .before .before .before .before .before .before .before .write-d4 .ensures .0) (c .before .before .before .before .before .before .before .write-d4 .ensures .1) (c .before .before .before .write-limb .ensures .0) (c .before .before .before .write-limb .ensures .1)))
+    -- enum-known-a
+    (λ c. search needs)
+    -- cast-write-block
+    (λ c. search needs)
+    -- write-block-requires
+    (λ c κs. (omega (arith, c .before .before .before .before .before .before .before .before .pre .0), ((c .before .before .before .before .before .before .before .before .pre .1 .0, exists-node _ _ _ _ (c .before .before .before .before .node-at .ensures) (c .before .before .a .given .1)), c .before .before .before .before .before .before .before .before .pre .1 .1)))
+    -- enum-known-a-2
+    (λ c. search needs)
+    -- cast-write-block-2
+    (λ c. search needs)
+    -- write-block-requires-2
+    (λ c κs. (omega (arith, c .before .before .before .before .before .before .before .before .pre .0), ((c .before .before .before .before .before .before .before .before .pre .1 .0, single-node _ _ _ _ (c .before .before .before .before .node-at .ensures) (c .before .before .a2 .given .1)), c .before .before .before .before .before .before .before .before .pre .1 .1)))
+    -- enum-known-name
+    (λ c. search needs)
+    -- find-requires
+    (λ c κs. search needs)
+    -- put-column-requires
+    (λ c κs. col-asks _ _ _ _ _ _ _ _ (c .before .before .before .before .before .before .before .before .before .pre .1 .0) _ (c .before .before .before .before .before .node-at .ensures) (c .before .before .before .before .before .before .before .before .before .pre .1 .1) (c .before .before .before .name .given .1) _ (c .before .find .ensures))
+    -- enum-known-name-2
+    (λ c. search needs)
+    -- find-requires-2
+    (λ c κs. search needs)
+    -- put-cell-class-requires
+    (λ c κs. class-asks _ _ _ _ _ _ _ _ (c .before .before .before .before .before .before .before .before .before .pre .1 .0) _ (c .before .before .before .before .before .node-at .ensures) (c .before .before .before .before .before .before .before .before .before .pre .1 .1) (c .before .before .before .name2 .given .1) _ (c .before .find2 .ensures))
+    -- enum-known-name-3
+    (λ c. search needs)
+    -- local-at-requires
+    (λ c κs. let-value _ _ _ _ _ _ _ _ (c .before .before .before .before .before .before .before .pre .1 .0) _ (c .before .before .before .node-at .ensures) (c .before .before .before .before .before .before .before .pre .1 .1) (c .before .name3 .given .1))
+    -- pushed-requires
+    (λ c κs. search needs)
+    -- put-rec-requires-4
+    (λ c κs. room-some _ (c .before .before .before .before .before .before .before .before .before .before .pre .1 .1))
+    -- write-d-requires-5
+    (λ c κs. (omega (arith, c .before .before .before .before .before .before .before .before .before .before .before .before .before .before .pre .0, c .before .before .before .before .before .before .before .before .before .before .before .before .before .before .pre .1 .0 .ready .left), value-asks _ _ _ _ _ _ _ _ (c .before .before .before .before .before .before .before .before .before .before .before .before .before .before .pre .1 .0) _ (c .before .before .before .before .before .before .before .before .before .before .node-at .ensures) (c .before .before .before .before .before .before .before .before .before .before .before .before .before .before .pre .1 .1) (c .before .before .before .before .before .before .before .before .name3 .given .1) _ _ (c .before .before .before .before .before .before .local-at .ensures) (c .before .before .before .before .before .pushed .ensures) (c .before .before .before .put-rec4 .ensures)))
+    -- add-write-d
+    (λ c. let h = push-room _ _ _ _ _ _ _ _ (c .before .before .before .before .before .before .before .before .before .before .before .before .before .before .before .before .before .pre .1 .0 .ready) in omega arith)
+    -- write-d-requires-6
+    (λ c κs. (omega (arith, c .before .before .before .before .before .before .before .before .before .before .before .before .before .before .before .before .before .before .pre .0, c .before .before .before .before .before .before .before .before .before .before .before .before .before .before .before .before .before .before .pre .1 .0 .ready .left), body-asks _ _ _ _ _ _ _ _ (c .before .before .before .before .before .before .before .before .before .before .before .before .before .before .before .before .before .before .pre .1 .0) _ (c .before .before .before .before .before .before .before .before .before .before .before .before .before .before .node-at .ensures) (c .before .before .before .before .before .before .before .before .before .before .before .before .before .before .before .before .before .before .pre .1 .1) (c .before .before .before .before .before .before .before .before .before .before .before .before .name3 .given .1) _ _ (c .before .before .before .before .before .before .before .before .before .before .local-at .ensures) (c .before .before .before .before .before .before .before .before .before .pushed .ensures) (c .before .before .before .before .before .before .before .put-rec4 .ensures) (c .before .before .before .write-d5 .ensures .0) (c .before .before .before .write-d5 .ensures .1)))
+    -- enum-told-4
+    (λ c. search needs)
+    -- enum-told-5
+    (λ c. search needs)
+    -- enum-told-6
+    (λ c. search needs)
+    -- same-length
+    (λ c. kept (c .before .before .copy-const .ensures))
+    -- returns
+    (λ c. const-done _ _ _ _ _ _ _ _ (c .before .before .before .before .before .before .before .before .before .before .pre .1 .0) _ (c .before .before .before .before .before .before .node-at .ensures) (c .before .before .before .before .before .before .before .before .before .before .pre .1 .1) (c .before .before .before .before .enum-told .given .1) (c .before .before .copy-const .ensures))
+    -- same-length-2
+    (λ c. kept (c .before .before .write-d2 .ensures .1) ∙ kept (c .before .before .before .before .before .before .write-d .ensures .1) ∙ kept (c .before .before .before .before .before .before .before .before .before .before .put-rec .ensures))
+    -- returns-2
+    (λ c. binop-done _ _ _ _ _ _ _ _ (c .before .before .before .before .before .before .before .before .before .before .before .before .before .before .before .before .before .before .before .before .pre .1 .0) _ (c .before .before .before .before .before .before .before .before .before .before .before .before .before .before .before .before .node-at .ensures) (c .before .before .before .before .before .before .before .before .before .before .before .before .before .before .before .before .before .before .before .before .pre .1 .1) (c .before .before .before .before .before .before .before .before .before .before .before .before .before .before .op .given .1) (c .before .before .before .before .before .before .before .before .before .before .before .before .digits-at .ensures) (c .before .before .before .before .before .before .before .before .before .before .put-rec .ensures) (c .before .before .before .before .before .before .write-d .ensures .0) (c .before .before .before .before .before .before .write-d .ensures .1) (c .before .before .write-d2 .ensures .0) (c .before .before .write-d2 .ensures .1))
+    -- same-length-3
+    (λ c. kept (c .before .before .write-d3 .ensures .1) ∙ kept (c .before .before .before .before .before .before .put-rec2 .ensures))
+    -- returns-3
+    (λ c. not-done _ _ _ _ _ _ _ _ (c .before .before .before .before .before .before .before .before .before .before .before .before .before .before .pre .1 .0) _ (c .before .before .before .before .before .before .before .before .before .before .node-at .ensures) (c .before .before .before .before .before .before .before .before .before .before .before .before .before .before .pre .1 .1) (c .before .before .before .before .before .before .before .before .enum-told2 .given .1) (c .before .before .before .before .before .before .put-rec2 .ensures) (c .before .before .write-d3 .ensures .0) (c .before .before .write-d3 .ensures .1))
+    -- same-length-4
+    (λ c. kept (c .before .before .write-limb2 .ensures .1) ∙ kept (c .before .before .before .before .before .before .write-limb .ensures .1) ∙ kept (c .before .before .before .before .before .before .before .before .before .before .write-d4 .ensures .1) ∙ kept (c .before .before .before .before .before .before .before .before .before .before .before .before .before .before .put-rec3 .ensures))
+    -- returns-4
+    (λ c. if-done _ _ _ _ _ _ _ _ (c .before .before .before .before .before .before .before .before .before .before .before .before .before .before .before .before .before .before .before .before .before .before .before .pre .1 .0) _ (c .before .before .before .before .before .before .before .before .before .before .before .before .before .before .before .before .before .before .before .node-at .ensures) (c .before .before .before .before .before .before .before .before .before .before .before .before .before .before .before .before .before .before .before .before .before .before .before .pre .1 .1) (c .before .before .before .before .before .before .before .before .before .before .before .before .before .before .before .before .before .enum-told3 .given .1) (c .before .before .before .before .before .before .before .before .before .before .before .before .before .before .before .before .type-at .ensures) (c .before .before .before .before .before .before .before .before .before .before .before .before .before .before .put-rec3 .ensures) (c .before .before .before .before .before .before .before .before .before .before .write-d4 .ensures .0) (c .before .before .before .before .before .before .before .before .before .before .write-d4 .ensures .1) (c .before .before .before .before .before .before .write-limb .ensures .0) (c .before .before .before .before .before .before .write-limb .ensures .1) (c .before .before .write-limb2 .ensures .0) (c .before .before .write-limb2 .ensures .1))
+    -- same-length-5
+    (λ c. kept (c .before .before .write-block .ensures .1))
+    -- returns-5
+    (λ c. c .before .before .write-block .ensures)
+    -- same-length-6
+    (λ c. kept (c .before .before .write-block2 .ensures .1))
+    -- returns-6
+    (λ c. c .before .before .write-block2 .ensures)
+    -- same-length-7
+    (λ c. kept (c .before .before .put-column .ensures))
+    -- returns-7
+    (λ c. col-done _ _ _ _ _ _ _ _ (c .before .before .before .before .before .before .before .before .before .before .before .before .pre .1 .0) _ (c .before .before .before .before .before .before .before .before .node-at .ensures) (c .before .before .before .before .before .before .before .before .before .before .before .before .pre .1 .1) (c .before .before .before .before .before .before .name .given .1) _ (c .before .before .before .before .find .ensures) (c .before .before .put-column .ensures))
+    -- same-length-8
+    (λ c. kept (c .before .before .put-cell-class .ensures))
+    -- returns-8
+    (λ c. class-done _ _ _ _ _ _ _ _ (c .before .before .before .before .before .before .before .before .before .before .before .before .pre .1 .0) _ (c .before .before .before .before .before .before .before .before .node-at .ensures) (c .before .before .before .before .before .before .before .before .before .before .before .before .pre .1 .1) (c .before .before .before .before .before .before .name2 .given .1) _ (c .before .before .before .before .find2 .ensures) (c .before .before .put-cell-class .ensures))
+    -- same-length-9
+    (λ c. kept (c .before .before .write-d6 .ensures .1) ∙ kept (c .before .before .before .before .before .before .write-d5 .ensures .1) ∙ kept (c .before .before .before .before .before .before .before .before .before .before .put-rec4 .ensures))
+    -- returns-9
+    (λ c. let-done _ _ _ _ _ _ _ _ (c .before .before .before .before .before .before .before .before .before .before .before .before .before .before .before .before .before .before .before .before .before .pre .1 .0) _ (c .before .before .before .before .before .before .before .before .before .before .before .before .before .before .before .before .before .node-at .ensures) (c .before .before .before .before .before .before .before .before .before .before .before .before .before .before .before .before .before .before .before .before .before .pre .1 .1) (c .before .before .before .before .before .before .before .before .before .before .before .before .before .before .before .name3 .given .1) _ _ (c .before .before .before .before .before .before .before .before .before .before .before .before .before .local-at .ensures) (c .before .before .before .before .before .before .before .before .before .before .before .before .pushed .ensures) (c .before .before .before .before .before .before .before .before .before .before .put-rec4 .ensures) (c .before .before .before .before .before .before .write-d5 .ensures .0) (c .before .before .before .before .before .before .write-d5 .ensures .1) (c .before .before .write-d6 .ensures .0) (c .before .before .write-d6 .ensures .1))
+    -- returns-10
+    (λ c. absurd (no-table _ _ _ _ _ _ _ _ (c .before .before .before .before .before .before .pre .1 .0) _ (c .before .before .node-at .ensures) (c .enum-told4 .given .1)))
+    -- returns-11
+    (λ c. absurd (no-select _ _ _ _ _ _ _ _ (c .before .before .before .before .before .before .pre .1 .0) _ (c .before .before .node-at .ensures) (c .enum-told5 .given .1)))
+    -- returns-12
+    (λ c. absurd (no-bad _ _ _ _ _ _ _ _ (c .before .before .before .before .before .before .pre .1 .0) _ (c .before .before .node-at .ensures) (c .enum-told6 .given .1))))
+    λ t. write-limb-lts.spec (
+      type-at-reads.Asked,
+      type-at-reads.Learnt,
+      put-conv-reads.Asked,
+      put-conv-reads.Learnt,
+      write-d-below t,
+      write-d.Post,
+    )
+    (write-limb-at t)
+    write-limb.Post
+    -- type-at-requires
+    (λ c κs. c .before .before .before .pre .1 .0)
+    -- put-conv-requires
+    (λ c κs. (c .before .before .before .before .before .pre .1 .1 .0, conv-asks _ _ _ _ _ _ _ _ (c .before .before .before .before .before .pre .1 .0) _ _ (c .before .type-at .ensures) (c .before .before .before .before .before .pre .1 .1 .1)))
+    -- write-d-requires
+    (λ c κs. (omega (arith, c .before .before .before .before .before .before .before .before .before .pre .0), limb-asks _ _ _ _ _ _ _ _ (c .before .before .before .before .before .before .before .before .before .pre .1 .0) _ _ (c .before .before .before .before .before .type-at .ensures) (c .before .before .before .before .before .before .before .before .before .pre .1 .1 .1) (c .before .before .before .put-conv .ensures)))
+    -- same-length
+    (λ c. kept (c .before .before .write-d .ensures .1) ∙ kept (c .before .before .before .before .before .before .put-conv .ensures))
+    -- returns
+    (λ c. limb-done _ _ _ _ _ _ _ _ (c .before .before .before .before .before .before .before .before .before .before .before .before .pre .1 .0) _ _ (c .before .before .before .before .before .before .before .before .type-at .ensures) (c .before .before .before .before .before .before .before .before .before .before .before .before .pre .1 .1 .1) (c .before .before .before .before .before .before .put-conv .ensures) (c .before .before .write-d .ensures .0) (c .before .before .write-d .ensures .1))

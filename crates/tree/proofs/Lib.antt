@@ -1,0 +1,13 @@
+-- The laws of trees: what is known of a class, sizes, what an accepted value tells of its parts, the places of the writers, and the prefix order read back.
+-- Assumes nothing.
+pub mod Infos
+pub mod Sizes
+pub mod Kept
+pub mod Resolved
+pub mod Narrow
+pub mod Accepted
+pub mod Answers
+pub mod Writing
+pub mod Leaves
+pub mod Turns
+pub mod Prefix

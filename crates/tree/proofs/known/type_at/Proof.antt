@@ -1,0 +1,14 @@
+-- `tree::known::type_at` meets its contract: an accepted value is not refused.
+-- Assumes nothing.
+use Rattle.tree.proofs.Leaves.{lookups}
+use borrow.Author.Needs.{needs}
+use Rattle.tree.proofs.known.type_at.Statement.{statement}
+use Rattle.tree.proofs.known.type_at.Tie as tie
+
+pub type-at-spec : {M : Type 1} → statement M
+type-at-spec = tie.close (tie.spec  -- value-requires
+    (λ c κs. search needs)  -- enum-known-x
+    (λ c. search needs)  -- enum-told
+    (λ c. search needs)  -- returns
+    (λ c. search lookups)  -- returns-2
+    (λ c. search lookups))

@@ -1,0 +1,94 @@
+// The records of a data tree that have no children of their own to write: constants, names, CONV, TABLE.
+// A writer returns the place after what it wrote.
+ghost use mathlib.Core.Path.{_≡_};
+ghost use Prim.Native.Nat.{_+_, _*_, _≤_};
+ghost use lib.ListN.{length};
+ghost use Rattle.word.specs.Buffer.{Wrote, Room};
+ghost use Rattle.view.specs.Record.{nodeAt};
+ghost use Rattle.tree.specs.Tree.{encode, tableRecs};
+ghost use Rattle.tree.specs.Trans.{nums};
+ghost use Rattle.tree.specs.Claims.{Narrow, refsAt, Tabled, IsConst, constTree, colTree, classTree, convBytes, blockKind};
+
+// The constant at a record of a view: its record again.
+pub fn copy_const(view: &[u8], at: usize, out: &mut [u8], to: usize) -> usize
+    requires { ⌜ 8 + 8 * at + 8 ≤ length (now view) ⌝ }
+    requires { ⌜ IsConst (nodeAt (now view) at) ⌝ }
+    requires { ⌜ Room (now out) to (encode (constTree (nodeAt (now view) at))) ⌝ }
+    ensures { λ r. ⌜ Wrote (now (out .entry)) to (encode (constTree (nodeAt (now (view .entry)) at))) (now (out .exit)) r ⌝ }
+{
+    let r = word::rec_at(view, at);
+    word::put_rec(out, to, r.kind, r.op, r.a, r.b, r.c)
+}
+
+// COL, by what its name finds: DATA or LOCAL.
+pub fn put_column(h: scope::Found, out: &mut [u8], to: usize) -> usize
+    requires { ⌜ Room (now out) to (encode (colTree h)) ⌝ }
+    ensures { λ r. ⌜ Wrote (now (out .entry)) to (encode (colTree h)) (now (out .exit)) r ⌝ }
+{
+    match h {
+        scope::Found::Column(a, b, c, _, _, _) => word::put_rec(out, to, 17, 0, a, b, c),
+        scope::Found::Local(a, _, _) => word::put_rec(out, to, 20, 0, a, 0, 0),
+        scope::Found::None => word::put_rec(out, to, 1, 0, 0, 0, 0),
+        scope::Found::Ambiguous => word::put_rec(out, to, 1, 0, 0, 0, 0),
+    }
+}
+
+// CLASSOF, by what its name finds: CELLCLASS.
+pub fn put_cell_class(h: scope::Found, out: &mut [u8], to: usize) -> usize
+    requires { ⌜ Room (now out) to (encode (classTree h)) ⌝ }
+    ensures { λ r. ⌜ Wrote (now (out .entry)) to (encode (classTree h)) (now (out .exit)) r ⌝ }
+{
+    match h {
+        scope::Found::Column(a, b, c, _, _, _) => word::put_rec(out, to, 18, 0, a, b, c),
+        scope::Found::Local(_, _, _) => word::put_rec(out, to, 1, 0, 0, 0, 0),
+        scope::Found::None => word::put_rec(out, to, 1, 0, 0, 0, 0),
+        scope::Found::Ambiguous => word::put_rec(out, to, 1, 0, 0, 0, 0),
+    }
+}
+
+// CONV before a limb of type s under IF of type t, where they differ.
+pub fn put_conv(s: cell::Type, t: cell::Type, out: &mut [u8], to: usize) -> usize
+    requires { ⌜ Narrow t ⌝ }
+    requires { ⌜ Room (now out) to (convBytes s t) ⌝ }
+    ensures { λ r. ⌜ Wrote (now (out .entry)) to (convBytes s t) (now (out .exit)) r ⌝ }
+{
+    if cell::same_type(s, t) {
+        return to;
+    }
+    let op = 16 * cell::digits_of(t) + cell::scale_of(t);
+    word::put_rec(out, to, 22, op, 0, 0, 0)
+}
+
+// The kind of a block's record: VALUE, or EXISTS.
+pub fn block_kind(single: bool) -> u8
+    ensures { λ r. ⌜ r ≡ blockKind single ⌝ }
+{
+    if single { 11 } else { 10 }
+}
+
+// The TABLE records of a block, with the tables' numbers.
+pub fn table_recs(
+    cat: &[u8],
+    n: usize,
+    starts: &[u16; 32],
+    tables: usize,
+    view: &[u8],
+    at: usize,
+    count: usize,
+    out: &mut [u8],
+    to: usize,
+) -> usize
+    requires { ⌜ Tabled (now cat) n (now starts) tables (now view) at count ⌝ }
+    requires { ⌜ Room (now out) to (tableRecs (nums (refsAt (now cat) n (now view) at count))) ⌝ }
+    ensures { λ r. ⌜ Wrote (now (out .entry)) to (tableRecs (nums (refsAt (now (cat .entry)) n (now (view .entry)) at count))) (now (out .exit)) r ⌝ }
+{
+    let mut u = to;
+    let mut j: usize = 0;
+    while j < count {
+        let p = at + j;
+        let k = scope::table_number(cat, n, starts, tables, view, p);
+        u = word::put_rec(out, u, 12, 0, k as u16, 0, 0);
+        j += 1;
+    }
+    u
+}
