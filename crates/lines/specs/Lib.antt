@@ -1,1 +1,3 @@
+-- The definitions of lines and numbers in a text.
+-- Assumes nothing.
 pub mod Text
