@@ -1,0 +1,8 @@
+-- The laws of the class writer.
+-- Assumes nothing.
+pub mod Joins
+pub mod FromLeft
+pub mod Parts
+pub mod Turns
+pub mod Whole
+pub mod Roots

@@ -1,0 +1,6 @@
+-- The definitions of the class writer: Claims what it requires of a record, Rows a block's row classes from the left.
+-- Assumes nothing.
+pub mod Claims
+pub mod Rows
+pub mod Found
+pub mod Whole

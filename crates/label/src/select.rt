@@ -1,0 +1,198 @@
+// SELECT: the tests of its where, the pairs of its values, and the whole tree file.
+// The definitions are in specs/Whole.
+ghost use mathlib.Core.Path.{_≡_};
+ghost use Prim.Native.Nat.{ℕ, _+_, _*_, _≤_};
+ghost use lib.ListN.{length};
+ghost use Rattle.word.specs.Buffer.{Wrote, Room};
+ghost use Rattle.view.specs.Record.{nodeAt};
+ghost use Rattle.view.specs.declared.Node.the-variants.{Select};
+ghost use Rattle.scope.specs.Entry.{Among};
+ghost use Rattle.tree.specs.Tree.{treeFile, sizeSelect};
+ghost use Rattle.tree.specs.Trans.{fixed};
+ghost use Rattle.tree.specs.Select.{test};
+ghost use Rattle.tree.specs.Claims.{Accepted};
+ghost use Rattle.label.specs.Claims.{classAt};
+ghost use Rattle.label.specs.Rows.{rowItem, rowsIn};
+ghost use Rattle.label.specs.Whole.{Viewed, Accepts, treeAt, pairBytes, flat, testBytes, classesIn, domBytes};
+use crate::known;
+use crate::rows;
+use crate::write_c;
+
+// and(DOM(CLASS q, ..
+fn write_dom(q: u16, out: &mut [u8], to: usize) -> usize
+    requires { ⌜ Room (now out) to (domBytes q) ⌝ }
+    ensures { λ r. ⌜ Wrote (now (out .entry)) to (domBytes q) (now (out .exit)) r ⌝ }
+{
+    let a = word::put_rec(out, to, 7, 5, 0, 0, 0);
+    let b = word::put_rec(out, a, 26, 0, 0, 0, 0);
+    word::put_rec(out, b, 6, 0, q, 0, 0)
+}
+
+// The test of a fixed class, left out where q dominates it.
+fn write_fixed_test(q: u16, k: u16, out: &mut [u8], to: usize) -> usize
+    requires { ⌜ Room (now out) to (flat (test q (fixed k))) ⌝ }
+    ensures { λ r. ⌜ Wrote (now (out .entry)) to (flat (test q (fixed k))) (now (out .exit)) r ⌝ }
+{
+    if class::dominates(q, k) {
+        return to;
+    }
+    let p = write_dom(q, out, to);
+    word::put_rec(out, p, 6, 0, k, 0, 0)
+}
+
+// The test of the row class of table j.
+fn write_row_test(
+    s: scope::Scope,
+    cat: &[u8],
+    n: usize,
+    j: usize,
+    q: u16,
+    out: &mut [u8],
+    to: usize,
+) -> usize
+    requires { ⌜ (8 + 8 * n ≤ length (now cat)) × Among n s × (j ≤ 4) ⌝ }
+    requires { ⌜ Room (now out) to (flat (test q (rowItem (rowsIn (now cat) n s) j))) ⌝ }
+    ensures { λ r. ⌜ Wrote (now (out .entry)) to (flat (test q (rowItem (rowsIn (now (cat .entry)) n s) j))) (now (out .exit)) r ⌝ }
+{
+    let i = scope::row_info(s, cat, n, j);
+    let b = class::bound_of(i);
+    if class::dominates(q, b) {
+        return to;
+    }
+    let p = write_dom(q, out, to);
+    rows::write_one(s, cat, n, j, out, p)
+}
+
+// The tests of the tables from table j on.
+fn write_tests(
+    s: scope::Scope,
+    cat: &[u8],
+    n: usize,
+    q: u16,
+    j: usize,
+    left: usize,
+    out: &mut [u8],
+    to: usize,
+) -> usize
+    requires { ⌜ (8 + 8 * n ≤ length (now cat)) × Among n s × (j + left ≤ 4) ⌝ }
+    requires { ⌜ Room (now out) to (testBytes q (classesIn (now cat) n s) (rowsIn (now cat) n s) j left) ⌝ }
+    ensures { λ r. ⌜ Wrote (now (out .entry)) to (testBytes q (classesIn (now (cat .entry)) n s) (rowsIn (now (cat .entry)) n s) j left) (now (out .exit)) r ⌝ }
+{
+    if left == 0 {
+        return to;
+    }
+    let k = scope::table_class_at(s, cat, n, j);
+    let a = write_fixed_test(q, k, out, to);
+    let b = write_row_test(s, cat, n, j, q, out, a);
+    write_tests(s, cat, n, q, j + 1, left - 1, out, b)
+}
+
+// The test of the class of the where at record `at`.
+fn write_where_test(
+    cat: &[u8],
+    starts: &[u16; 32],
+    view: &[u8],
+    f: resolve::Files,
+    at: usize,
+    t: [scope::Scope; 16],
+    q: u16,
+    out: &mut [u8],
+    to: usize,
+) -> usize
+    requires { ⌜ Accepted (now cat) (now starts) (now view) f t 1 15 at ⌝ }
+    requires { ⌜ Room (now out) to (flat (test q (classAt (now cat) (now view) f t 1 15 at))) ⌝ }
+    ensures { λ r. ⌜ Wrote (now (out .entry)) to (flat (test q (classAt (now (cat .entry)) (now (view .entry)) f t 1 15 at))) (now (out .exit)) r ⌝ }
+{
+    let x = known(cat, starts, view, f, at, 15, t, 1);
+    let i = x.info;
+    let b = class::bound_of(i);
+    if class::dominates(q, b) {
+        return to;
+    }
+    let p = write_dom(q, out, to);
+    write_c(cat, starts, view, f, at, 15, t, 1, out, p)
+}
+
+// The pairs of data and class of so many values from record `at` on.
+fn write_pairs(
+    cat: &[u8],
+    starts: &[u16; 32],
+    view: &[u8],
+    f: resolve::Files,
+    at: usize,
+    t: [scope::Scope; 16],
+    count: usize,
+    out: &mut [u8],
+    to: usize,
+) -> usize
+    requires { ⌜ Accepts (now cat) (now starts) (now view) f t count at ⌝ }
+    requires { ⌜ Room (now out) to (pairBytes (now cat) (now view) f t count at) ⌝ }
+    ensures { λ r. ⌜ Wrote (now (out .entry)) to (pairBytes (now (cat .entry)) (now (view .entry)) f t count at) (now (out .exit)) r ⌝ }
+{
+    let mut i = count;
+    let mut m = at;
+    let mut u = to;
+    while 0 < i {
+        let x = tree::write_d(cat, starts, view, f, m, 15, t, 1, out, u);
+        let p = x.to;
+        u = write_c(cat, starts, view, f, m, 15, t, 1, out, p);
+        m = x.next;
+        i -= 1;
+    }
+    u
+}
+
+// The tree's file of a SELECT of so many tables and values; its count of records is known, and there is room.
+fn write_root(
+    cat: &[u8],
+    starts: &[u16; 32],
+    view: &[u8],
+    f: resolve::Files,
+    q: u16,
+    count: u16,
+    tables: u16,
+    values: u16,
+    out: &mut [u8],
+) -> usize
+    requires { ⌜ Viewed (now cat) (now starts) (now view) f × (nodeAt (now view) 0 ≡ Select tables values) ⌝ }
+    requires { ⌜ count ≡ sizeSelect (treeAt (now cat) (now view) f q) ⌝ }
+    requires { ⌜ Room (now out) 0 (treeFile (treeAt (now cat) (now view) f q)) ⌝ }
+    ensures { λ r. ⌜ Wrote (now (out .entry)) 0 (treeFile (treeAt (now (cat .entry)) (now (view .entry)) f q)) (now (out .exit)) r ⌝ }
+{
+    let m = tables as usize;
+    let test = 1 + m;
+    let o = scope::open_block(cat, f.nc, starts, f.tables, view, 1, m);
+    let s = o.scope;
+    let t = [s; 16];
+    let a = word::put_header(out, b"DRT\0", count);
+    let b = word::put_rec(out, a, 13, 0, tables, values, 0);
+    let c = tree::table_recs(cat, f.nc, starts, f.tables, view, 1, m, out, b);
+    let d = write_tests(s, cat, f.nc, q, 0, m, out, c);
+    let e = write_where_test(cat, starts, view, f, test, t, q, out, d);
+    let x = tree::write_d(cat, starts, view, f, test, 15, t, 1, out, e);
+    let first = x.next;
+    let p = x.to;
+    write_pairs(cat, starts, view, f, first, t, values as usize, out, p)
+}
+
+// The whole tree of an accepted view, under clearance q, into a buffer that has room for its `count` records.
+pub fn write_tree(
+    cat: &[u8],
+    starts: &[u16; 32],
+    view: &[u8],
+    f: resolve::Files,
+    q: u16,
+    count: u16,
+    out: &mut [u8],
+) -> usize
+    requires { ⌜ Viewed (now cat) (now starts) (now view) f ⌝ }
+    requires { ⌜ count ≡ sizeSelect (treeAt (now cat) (now view) f q) ⌝ }
+    requires { ⌜ Room (now out) 0 (treeFile (treeAt (now cat) (now view) f q)) ⌝ }
+    ensures { λ r. ⌜ Wrote (now (out .entry)) 0 (treeFile (treeAt (now (cat .entry)) (now (view .entry)) f q)) (now (out .exit)) r ⌝ }
+{
+    let node = view::node_at(view, 0);
+    let view::Node::Select(a, b) = node else {
+        return 0;
+    };
+    write_root(cat, starts, view, f, q, count, a, b, out)
+}
