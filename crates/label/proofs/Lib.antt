@@ -5,4 +5,5 @@ pub mod FromLeft
 pub mod Parts
 pub mod Turns
 pub mod Whole
+pub mod Counts
 pub mod Roots

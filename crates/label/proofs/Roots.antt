@@ -36,7 +36,7 @@ use Rattle.resolve.specs.declared.Files.{Files}
 use Rattle.resolve.specs.declared.Verdict.{Verdict}
 use Rattle.resolve.specs.declared.Verdict.the-variants as verdict
 use Rattle.resolve.proofs.Inversion.{ViewGood, view-good, all-good}
-use Rattle.tree.specs.Tree.{Tree, SelectTree, sizeSelect, tableRecs, encode, encodePairs, encodeSelect, treeFile}
+use Rattle.tree.specs.Tree.{Tree, SelectTree, size, sizePairs, sizeSelect, tableRecs, encode, encodePairs, encodeSelect, treeFile}
 use Rattle.tree.specs.Trans.{D, C, Class, asTree, nums}
 use Rattle.tree.specs.Select.{test, tableTests, conj, root, translated}
 use Rattle.tree.specs.Claims.{exprAt, dataAt, nextAt, refsAt, Tabled, Narrow, Accepted}
@@ -44,9 +44,11 @@ use Rattle.tree.proofs.Narrow.{narrow-null}
 use Rattle.tree.proofs.Accepted.{Is, accept}
 use Rattle.label.specs.Claims.{classAt}
 use Rattle.label.specs.Rows.{rowsIn, Rowed}
-use Rattle.label.specs.Whole.{selectIn, selectAt, treeAt, Viewed, Accepts, pairBytes, flat, testBytes, classesIn}
+use Rattle.label.specs.Whole.{selectIn, selectAt, treeAt, Viewed, Accepts, pairBytes, flat, testBytes, classesIn, pairSize, flatSize, testSize}
 use Rattle.label.proofs.Parts.{class-of}
-use Rattle.label.proofs.Whole.{flat-append, conj-bytes, tests-are}
+use Rattle.resolve.specs.Sizes.{capped}
+use Rattle.label.proofs.Counts.{flat-records, cap-all}
+use Rattle.label.proofs.Whole.{flat-append, flat-both, conj-bytes, tests-are, tests-sized}
 
 -- the answer of an accepted view
 is-select : (R : Resolved) → verdictOf R ≡ verdict.Fine → (ts : List Ty) × (R ≡ select (selectIn R) ts)
@@ -89,6 +91,12 @@ pairs-number k (x ∷ xs) = ap suc (pairs-number k xs)
 
 parts-as : (v : List ℕ) (w : Taken v) (n a b : ℕ) → n ≡ countAt v → w .tables ≡ a → w .values ≡ b → InBlock v n (parseValue v n 15) a b 1 (w .block) n
 parts-as v w n a b e x y = rw (e, ← x, ← y) (w .parts)
+
+select-size : (k q : ℕ) (s : Select) → sizeSelect (translated k q s)
+    ≡ 1 + (length (s .from) + (flatSize (tableTests q 0 (s .from)) + (flatSize (test q (C k root (s .test))) + (size (D (s .test)) + sizePairs (pairsOf k (s .values))))))
+unfolding sizeSelect translated
+select-size k q s =
+    omega (arith, nums-number (s .from), flat-records (tableTests q 0 (s .from) ++ test q (C k root (s .test))) (D (s .test)), flat-both (tableTests q 0 (s .from)) (test q (C k root (s .test))))
 
 -- SELECT's records, in order
 select-bytes : (k q : ℕ) (s : Select)
@@ -237,20 +245,22 @@ module _ (c ss v : List ℕ) (f : Files) (w : Viewed c ss v f) (tables values : 
     record Row (count m : ℕ) (xs : List Expr) : Type 0 where
       all-there : Accepts c ss v f (replicate 16 (o .scope)) count m
       bytes : pairBytes c v f (replicate 16 (o .scope)) count m ≡ encodePairs (pairsOf (f .k) xs)
+      sizes : pairSize c v f (replicate 16 (o .scope)) count m ≡ sizePairs (pairsOf (f .k) xs)
       number : length xs ≡ count
 
     no-row : (m : ℕ) → Row 0 m []
-    unfolding Accepts pairBytes encodePairs
-    no-row m = record { all-there = tt; bytes = refl; number = refl }
+    unfolding Accepts pairBytes encodePairs pairSize sizePairs
+    no-row m = record { all-there = tt; bytes = refl; sizes = refl; number = refl }
 
     one-row : (i m : ℕ) (x : Expr) (xs : List Expr) (ty : Ty) → Is c ss v f (replicate 16 (o .scope)) 1 15 m x ty → Row i (nextAt v f 15 m) xs → Row (suc i) m (x ∷ xs)
-    unfolding Accepts pairBytes encodePairs
+    unfolding Accepts pairBytes encodePairs pairSize sizePairs
     one-row i m x xs ty h r =
         record {
           all-there = (h .accepted, r .all-there);
           bytes = ap₂ (λ (a b : List ℕ). a ++ (b ++ pairBytes c v f (replicate 16 (o .scope)) i (nextAt v f 15 m)))
               (ap encode (data-root m x (h .expr-as))) (ap (λ (z : Class). encode (asTree z)) (class-root m x (h .expr-as)))
               ∙ ap (λ (l : List ℕ). encode (D x) ++ (encode (asTree (C (f .k) root x)) ++ l)) (r .bytes);
+          sizes = (let x1 = ap size (data-root m x (h .expr-as)) in let x2 = ap (λ (z : Class). size (asTree z)) (class-root m x (h .expr-as)) in omega (arith, x1, x2, r .sizes));
           number = ap suc (r .number);
         }
 
@@ -315,3 +325,35 @@ module _ (c ss v : List ℕ) (f : Files) (w : Viewed c ss v f) (tables values : 
         (sym (class-root (1 + tables) _ (test-is .expr-as))) (sym (data-root (1 + tables) _ (test-is .expr-as)))
         ∙ ap (λ (l : List ℕ). flat (test q (classAt c v f (replicate 16 (o .scope)) 1 15 (1 + tables))) ++ (encode (dataAt c v f (replicate 16 (o .scope)) 1 15 (1 + tables)) ++ l))
         (sym (values-row .bytes) ∙ ap (pairBytes c v f (replicate 16 (o .scope)) values) (sym h))))
+
+    root-sizes : (q : ℕ) → testSize q (classesIn c (f .nc) (o .scope)) (rowsIn c (f .nc) (o .scope)) 0 tables ≡ flatSize (tableTests q 0 (selectAt c v f .from))
+    root-sizes q =
+        ap (testSize q (classesIn c (f .nc) (o .scope)) (rowsIn c (f .nc) (o .scope)) 0) (sym from-number)
+        ∙ tests-sized q (classesIn c (f .nc) (o .scope)) (rowsIn c (f .nc) (o .scope)) 0 (selectAt c v f .from)
+        (ap classesOf own-tables ∙ classes-of (selectAt c v f .from)) (ap rowsOf own-tables ∙ rows-of (selectAt c v f .from))
+
+    tree-size : (q : ℕ) → sizeSelect (treeAt c v f q)
+        ≡ 1 + (tables + (testSize q (classesIn c (f .nc) (o .scope)) (rowsIn c (f .nc) (o .scope)) 0 tables
+        + (flatSize (test q (classAt c v f (replicate 16 (o .scope)) 1 15 (1 + tables)))
+        + (size (dataAt c v f (replicate 16 (o .scope)) 1 15 (1 + tables)) + pairSize c v f (replicate 16 (o .scope)) values (nextAt v f 15 (1 + tables))))))
+    unfolding treeAt
+    tree-size q =
+        let y = select-size (f .k) q (selectAt c v f) in
+        let a = ap (λ (z : Class). flatSize (test q z)) (class-root (1 + tables) _ (test-is .expr-as)) in
+        let b = ap size (data-root (1 + tables) _ (test-is .expr-as)) in
+        let d = values-row .sizes in
+        let e = root-sizes q in
+        let n = from-number in
+        omega (arith, y, a, b, d, e, n)
+
+    -- HOW MANY RECORDS, as they are counted
+    pub size-counted : (q : ℕ) {m : ℕ} (a b d x i j k r : ℕ) → m ≡ nextAt v f 15 (1 + tables)
+        → a ≡ capped (testSize q (classesIn c (f .nc) (o .scope)) (rowsIn c (f .nc) (o .scope)) 0 tables)
+        → b ≡ capped (flatSize (test q (classAt c v f (replicate 16 (o .scope)) 1 15 (1 + tables))))
+        → x ≡ capped (size (dataAt c v f (replicate 16 (o .scope)) 1 15 (1 + tables)))
+        → d ≡ capped (pairSize c v f (replicate 16 (o .scope)) values m)
+        → i ≡ capped (1 + tables + a) → j ≡ capped (b + x) → k ≡ capped (j + d) → r ≡ capped (i + k) → r ≡ capped (sizeSelect (treeAt c v f q))
+    size-counted q {m} a b d x i j k r e g h y z u1 u2 u3 u4 =
+        let l = tree-size q in
+        let n : pairSize c v f (replicate 16 (o .scope)) values m ≡ pairSize c v f (replicate 16 (o .scope)) values (nextAt v f 15 (1 + tables)) = ap (pairSize c v f (replicate 16 (o .scope)) values) e in
+        cap-all tables a b x d i j k _ _ _ _ g h y (z ∙ ap capped n) u1 u2 u3 u4 ∙ ap capped (sym l)

@@ -48,11 +48,16 @@ use Rattle.tree.proofs.Narrow.{narrow-null}
 use Rattle.tree.proofs.Accepted.{Is, accept}
 use Rattle.label.specs.Claims.{classAt, Told}
 use Rattle.label.specs.Rows.{rowItem, rowsIn}
-use Rattle.label.specs.Whole.{selectIn, selectAt, treeAt, Viewed, Accepts, pairBytes, flat, testBytes, classesIn, domBytes}
+use Rattle.label.specs.Whole.{selectIn, selectAt, treeAt, Viewed, Accepts, pairBytes, flat, testBytes, classesIn, domBytes, flatSize, testSize}
 use Rattle.label.proofs.Joins.{class-bytes}
 use Rattle.label.proofs.FromLeft.{row-info}
 
 -- ---- tests
+
+pub flat-both : (xs ys : List Tree) → flatSize (xs ++ ys) ≡ flatSize xs + flatSize ys
+unfolding flatSize
+flat-both [] ys = omega arith
+flat-both (x ∷ xs) ys = omega (arith, flat-both xs ys)
 
 append-none : (xs : List ℕ) → xs ++ [] ≡ xs
 append-none [] = refl
@@ -162,6 +167,18 @@ tests-are q ks is j (t ∷ ts) e g =
     ∙ ap (λ (l : List ℕ). flat (test q (fixed (t .table .tclass))) ++ (flat (test q (byInfo (t .table .row) (ROWCLASS 0 j))) ++ l)) (tests-are q ks is (suc j) ts (drop-tail ks j _ _ e) (drop-tail is j _ _ g))
     ∙ ap (λ (l : List ℕ). flat (test q (fixed (t .table .tclass))) ++ l) (sym (flat-append (test q (byInfo (t .table .row) (ROWCLASS 0 j))) (tableTests q (suc j) ts)))
     ∙ sym (flat-append (test q (fixed (t .table .tclass))) (test q (byInfo (t .table .row) (ROWCLASS 0 j)) ++ tableTests q (suc j) ts))
+
+pub tests-sized : (q : ℕ) (ks : List ℕ) (is : List Info) (j : ℕ) (ts : List TabRef) → drop j ks ≡ map (λ t. t .table .tclass) ts → drop j is ≡ map (λ t. t .table .row) ts
+    → testSize q ks is j (length ts) ≡ flatSize (tableTests q j ts)
+unfolding testSize tableTests
+tests-sized q ks is j [] e g = unfold flatSize in refl
+tests-sized q ks is j (t ∷ ts) e g =
+    let x = ap₂ (λ (k : ℕ) (i : Class). flatSize (test q (fixed k)) + (flatSize (test q i) + testSize q ks is (suc j) (length ts)))
+    (drop-head ks j 0 _ _ e) (item-is is j _ (drop-head is j (Fixed 0) _ _ g)) in
+    let y = tests-sized q ks is (suc j) ts (drop-tail ks j _ _ e) (drop-tail is j _ _ g) in
+    let a = flat-both (test q (fixed (t .table .tclass))) (test q (byInfo (t .table .row) (ROWCLASS 0 j)) ++ tableTests q (suc j) ts) in
+    let b = flat-both (test q (byInfo (t .table .row) (ROWCLASS 0 j))) (tableTests q (suc j) ts) in
+    x ∙ omega (arith, y, a, b)
 
 -- ---- values in a row
 

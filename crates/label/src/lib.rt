@@ -3,6 +3,7 @@
 mod rows;
 mod select;
 
+pub use select::measure;
 pub use select::write_tree;
 ghost use mathlib.Core.Path.{_≡_};
 ghost use mathlib.Core.Bool.{Bool};
