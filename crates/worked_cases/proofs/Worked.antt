@@ -7,8 +7,11 @@ use Rattle.cell.specs.Types.{kindOf, digitsOf, scaleOf, widerOf, sumType, produ
 use Rattle.cell.specs.Values.{isNull, asFixed}
 use Rattle.cell.specs.Apply.{cutFixed, cutInterval, productFixed, productInterval, sumN, productN, orNull, equalV, settled, logicV, apply}
 use Rattle.class.specs.Class.{level, mark, dominatesb, lubOf}
-use Rattle.worked_cases.specs.Cases.{answer, questions, answers}
+use Rattle.scope.specs.Scopes.{onlyOf, inCols, inTable, inTabs, inScope, nearest, find}
+use Rattle.resolve.specs.Resolve.{then, colOut, ruled, resolve}
+use Rattle.tree.specs.Trans.{asTree, byInfo, join, C}
+use Rattle.worked_cases.specs.Cases.{labelOf, answer, questions, answers}
 
 pub worked-cases : map answer questions ≡ answers
-unfolding answer bind kindOf digitsOf scaleOf widerOf sumType productType logicType equalType binopType isNull asFixed cutFixed cutInterval productFixed productInterval sumN productN orNull equalV settled logicV apply level mark dominatesb lubOf
+unfolding answer labelOf onlyOf inCols inTable inTabs inScope nearest find then colOut ruled resolve asTree byInfo join C bind kindOf digitsOf scaleOf widerOf sumType productType logicType equalType binopType isNull asFixed cutFixed cutInterval productFixed productInterval sumN productN orNull equalV settled logicV apply level mark dominatesb lubOf
 worked-cases = refl
