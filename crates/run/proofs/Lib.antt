@@ -1,16 +1,23 @@
--- Laws of the run: Encodes says that what was written stands, Ends and Records how it is read into words, Kept and Scoping what words hold.
--- Assumes nothing.
+-- Laws of the run: Encodes says that what was written stands, Ends, Records, Lays and Holding how it is read into words; Scoping, Opening and
+-- Kept what words hold; Shapes, Nodes, Known, Products, Blocks, Turns and Levels the run; the others the answer. Assumes nothing.
 pub mod Encodes
 pub mod Ends
 pub mod Records
-pub mod Kept
-pub mod Scoping
+pub mod Lays
 pub mod Holding
-pub mod Products
-pub mod Known
-pub mod Shapes
+pub mod Scoping
 pub mod Opening
+pub mod Kept
+pub mod Shapes
 pub mod Nodes
+pub mod Known
+pub mod Products
 pub mod Blocks
 pub mod Turns
 pub mod Levels
+pub mod Collecting
+pub mod Showing
+pub mod Pairing
+pub mod Choosing
+pub mod Filling
+pub mod Answering

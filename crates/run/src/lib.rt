@@ -2,5 +2,8 @@
 // The definitions are in specs/: Run has the run of any tree, Answer the answer's cells and bytes.
 mod eval;
 mod folds;
+mod rows;
 mod scopes;
 mod words;
+
+pub use rows::answer;

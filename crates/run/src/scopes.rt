@@ -1,7 +1,7 @@
 // The open scopes in 64 words, four to a scope: the leaves of a tree look up rows, cells and locals in them.
 // A scope is opened in a copy.
 ghost use mathlib.Core.Path.{_≡_};
-ghost use Prim.Native.Nat.{ℕ, _+_, _*_, _/_, _%_, _<_, _≤_};
+ghost use Prim.Native.Nat.{_+_, _*_, _/_, _%_, _<_, _≤_};
 ghost use lib.ListN.{length, set};
 ghost use Rattle.packed.specs.Packed.{openOf};
 ghost use Rattle.packed.specs.Constants.{constMeaning};

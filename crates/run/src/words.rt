@@ -1,12 +1,11 @@
 // The tree's records, read once into words: each says where its node's children stand, a TABLE's where its table's rows do.
 // A word that is asked for past the last one is 0.
 ghost use mathlib.Core.Path.{_≡_};
-ghost use Prim.Native.Nat.{ℕ, _+_, _*_, _<_, _≤_};
+ghost use Prim.Native.Nat.{_+_, _*_, _<_, _≤_};
 ghost use lib.ListN.{length, getD};
-ghost use Rattle.word.specs.Record.{kindAt, aAt};
-ghost use Rattle.store.specs.Layout as layout;
-ghost use Rattle.store.specs.declared.Verdict.the-variants as verdict;
-ghost use Rattle.run.specs.Words.{kindIn, opIn, aIn, bIn, cIn, PartsAre, two, three, endOf, EndsAre, partB, partC, WordFor, LaysAre, WordsAre};
+ghost use Rattle.store.specs.Layout.{filesOf};
+ghost use Rattle.store.specs.declared.Verdict.the-variants.{Fine};
+ghost use Rattle.run.specs.Words.{kindIn, opIn, aIn, bIn, cIn, PartsAre, two, three, endOf, EndsAre, partB, partC, WordFor, LayIs, LaysAre, WordsAre};
 
 // The parts of a word.
 pub fn kind_in(w: u64) -> u64
@@ -50,7 +49,7 @@ fn word_of(kind: u8, op: u8, a: u16, b: u16, c: u16) -> u64
         + 281474976710656 * (c as u64)
 }
 
-fn index(x: u16) -> usize
+pub fn index(x: u16) -> usize
     ensures { λ r. ⌜ (r ≡ x) × (r < 65536) ⌝ }
 {
     x as usize
@@ -69,7 +68,7 @@ fn has_three(kind: u8) -> bool
     (kind == 9) | (kind == 24)
 }
 
-fn end_at(ends: &[u16; 8192], i: usize) -> u16
+pub fn end_at(ends: &[u16; 8192], i: usize) -> u16
     requires { ⌜ length (now ends) ≡ 8192 ⌝ }
     ensures { λ r. ⌜ r ≡ getD (now (ends .entry)) i 0 ⌝ }
 {
@@ -188,4 +187,34 @@ pub fn words_of(code: &[u8], n: usize, ends: &[u16; 8192], lays: &[u64; 32]) -> 
         i += 1;
     }
     words
+}
+
+// The word of a table, by where its rows stand.
+fn lay_of(first: u16, rec: u16, size: u16, rows: u16) -> u64
+    ensures { λ r. ⌜ LayIs r first rec size rows ⌝ }
+{
+    (first as u64)
+        + 65536 * (rec as u64)
+        + 4294967296 * ((size / 8) as u64)
+        + 281474976710656 * (rows as u64)
+}
+
+// The words of the tables of an accepted catalogue and store.
+pub fn lays_of(cat: &[u8], store: &[u8]) -> [u64; 32]
+    requires { ⌜ filesOf (now cat) (now store) ≡ Fine ⌝ }
+    ensures { λ r. ⌜ LaysAre (now (cat .entry)) (now (store .entry)) r ⌝ }
+{
+    let n = index(word::u16_at(cat, 6));
+    let tables = index(word::u16_at(store, 6));
+    let spans = store::spans(cat, n, store);
+    let starts = catalogue::starts(cat, n);
+    let mut lays = [0u64; 32];
+    let mut j: usize = 0;
+    while j < tables {
+        let at = 3 * j;
+        let w = lay_of(spans[at], starts[j], spans[at + 2], spans[at + 1]);
+        lays[j] = w;
+        j += 1;
+    }
+    lays
 }
