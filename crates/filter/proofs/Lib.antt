@@ -3,8 +3,10 @@
 pub mod Formed
 pub mod Fitting
 pub mod Sound
+pub mod Standing
 pub mod Only
 pub mod Ways
 pub mod Trees
+pub mod Answers
 pub mod Numbers
 pub mod Reading

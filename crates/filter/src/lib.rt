@@ -1,13 +1,16 @@
-// Translate, for any bytes.
+// The two public jobs, Translate and Answer, for any bytes.
 // The definitions are in specs/: Jobs has the order of refusals and what each buffer holds afterwards.
 ghost use mathlib.Core.Path.{_≡_};
 ghost use Prim.Native.Nat.{ℕ};
 ghost use lib.ListN.{length};
 ghost use Rattle.catalogue.specs.Fault as fault;
 ghost use Rattle.catalogue.specs.declared.Verdict.the-variants as catalogues;
-ghost use Rattle.filter.specs.Jobs.{treeFits, treeOf, Translated};
+ghost use Rattle.store.specs.Layout as layout;
+ghost use Rattle.store.specs.declared.Verdict.the-variants as stores;
+ghost use Rattle.word.specs.Header.{countAt};
+ghost use Rattle.filter.specs.Jobs.{treeFits, treeOf, Translated, Answered};
 ghost use Rattle.label.specs.Whole.{treeAt, Viewed};
-ghost use Rattle.filter.specs.Steps.{denied, taken, TreeGiven, wordOf, TranslatedWord};
+ghost use Rattle.filter.specs.Steps.{denied, taken, TreeGiven, BothGiven, wordOf, TranslatedWord, AnsweredWord};
 
 // Number, place, and count of records or rows: 0, 0, n if accepted; a refusal's count is 0.
 pub struct Result {
@@ -87,6 +90,57 @@ pub fn translate(cat: &[u8], view: &[u8], k: u16, q: u16, tree: &mut [u8]) -> Re
     }
 }
 
+// The tree and then the answer, over an accepted catalogue and store: 41 if the answer doesn't fit its buffer or 65,535 rows.
+fn answer_over(
+    cat: &[u8],
+    tables: usize,
+    view: &[u8],
+    k: u16,
+    q: u16,
+    tree: &mut [u8],
+    store: &[u8],
+    out: &mut [u8],
+) -> Result
+    requires { ⌜ fault.checkOf (now cat) ≡ catalogues.Tables tables ⌝ }
+    requires { ⌜ layout.checkOf (now cat) (countAt (now cat)) tables (now store) ≡ stores.Fine ⌝ }
+    ensures { λ r. ⌜ BothGiven (now (cat .entry)) (now (view .entry)) k q (now (store .entry)) (now (tree .entry)) (now (out .entry)) (now (tree .exit)) (now (out .exit)) r ⌝ }
+{
+    let r = tree_of(cat, tables, view, k, q, tree);
+    let n = r.count;
+    if n == 0 {
+        return r;
+    }
+    let rows = run::answer(tree, cat, store, q, out);
+    if rows == 65536 {
+        return refusal(41, 0);
+    }
+    acceptance(rows)
+}
+
+// ANSWER: the same with a store, and the tree's answer over it.
+pub fn answer(
+    cat: &[u8],
+    view: &[u8],
+    k: u16,
+    q: u16,
+    tree: &mut [u8],
+    store: &[u8],
+    out: &mut [u8],
+) -> Result
+    ensures { λ r. ⌜ Answered (now (cat .entry)) (now (view .entry)) k q (now (store .entry)) (now (tree .entry)) (now (out .entry)) (now (tree .exit)) (now (out .exit)) r ⌝ }
+{
+    match catalogue::check(cat) {
+        catalogue::Verdict::Refused(i, p) => refusal(i, p),
+        catalogue::Verdict::Tables(tables) => {
+            let nc = word::u16_at(cat, 6) as usize;
+            match store::check_over(cat, nc, tables, store) {
+                store::Verdict::Refused(i, p) => refusal(i, p),
+                store::Verdict::Fine => answer_over(cat, tables, view, k, q, tree, store, out),
+            }
+        }
+    }
+}
+
 // A result as one number: number + 65536 × place + 2^32 × count.
 fn word_of(r: Result) -> u64
     ensures { λ w. ⌜ w ≡ wordOf r ⌝ }
@@ -108,5 +162,21 @@ pub extern "C" fn wayrinka_translate(
     ensures { λ w. ⌜ TranslatedWord (now (cat .entry)) (now (view .entry)) k q (now (tree .entry)) (now (tree .exit)) w ⌝ }
 {
     let r = translate(cat, view, k, q, tree);
+    word_of(r)
+}
+
+#[no_mangle]
+pub extern "C" fn wayrinka_answer(
+    cat: &[u8],
+    view: &[u8],
+    k: u16,
+    q: u16,
+    tree: &mut [u8],
+    store: &[u8],
+    out: &mut [u8],
+) -> u64
+    ensures { λ w. ⌜ AnsweredWord (now (cat .entry)) (now (view .entry)) k q (now (store .entry)) (now (tree .entry)) (now (out .entry)) (now (tree .exit)) (now (out .exit)) w ⌝ }
+{
+    let r = answer(cat, view, k, q, tree, store, out);
     word_of(r)
 }

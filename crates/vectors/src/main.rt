@@ -1,5 +1,5 @@
-// Runs Translate on the cases of standard input that ask for it. For each it writes number, place, count and the digests of both
-// lent buffers, each filled with a pattern before. It ends whatever the input is: the cases are counted.
+// Runs the two jobs on the cases of standard input. For each it writes number, place, count and the digests of both lent buffers,
+// each filled with a pattern before. It ends whatever the input is: the cases are counted.
 use cases::Case;
 use cases::Opening;
 
@@ -25,24 +25,37 @@ fn show(r: filter::Result, tree: u64, out: u64) {
     lines::end_line();
 }
 
-// Runs a case's job over filled buffers. A case that asks for an answer writes no line.
-fn filled(case: Case, cat: &[u8], view: &[u8], tree: &mut [u8], out: &mut [u8]) {
+// The result of a case's job.
+fn result(
+    case: Case,
+    cat: &[u8],
+    view: &[u8],
+    store: &[u8],
+    tree: &mut [u8],
+    out: &mut [u8],
+) -> filter::Result {
     let job = case.job;
     if job == 1 {
-        cases::fill(tree);
-        cases::fill(out);
-        let r = filter::translate(cat, view, case.k, case.q, tree);
-        show(r, cases::digest(tree), cases::digest(out));
+        return filter::translate(cat, view, case.k, case.q, tree);
     }
+    filter::answer(cat, view, case.k, case.q, tree, store, out)
+}
+
+// Runs a case's job over filled buffers.
+fn filled(case: Case, cat: &[u8], view: &[u8], store: &[u8], tree: &mut [u8], out: &mut [u8]) {
+    cases::fill(tree);
+    cases::fill(out);
+    let r = result(case, cat, view, store, tree, out);
+    show(r, cases::digest(tree), cases::digest(out));
 }
 
 // Runs a case over buffers of the lengths that it asks.
-fn cut(case: Case, cat: &[u8], view: &[u8], tree: &mut [u8], out: &mut [u8]) {
+fn cut(case: Case, cat: &[u8], view: &[u8], store: &[u8], tree: &mut [u8], out: &mut [u8]) {
     let t = case.tree;
     let a = case.answer;
     if t <= tree.len() {
         if a <= out.len() {
-            filled(case, cat, view, &mut tree[..t], &mut out[..a]);
+            filled(case, cat, view, store, &mut tree[..t], &mut out[..a]);
         }
     }
 }
@@ -51,11 +64,20 @@ fn cut(case: Case, cat: &[u8], view: &[u8], tree: &mut [u8], out: &mut [u8]) {
 fn run(case: Case) {
     let mut cat = cases::file();
     let mut view = cases::file();
+    let mut store = cases::file();
     let mut tree = cases::lent();
     let mut out = cases::lent();
     let c = cases::load(&mut cat, case.cat);
     let v = cases::load(&mut view, case.view);
-    cut(case, &cat[..c], &view[..v], &mut tree, &mut out);
+    let s = cases::load(&mut store, case.store);
+    cut(
+        case,
+        &cat[..c],
+        &view[..v],
+        &store[..s],
+        &mut tree,
+        &mut out,
+    );
 }
 
 // One case; whether there was one.
