@@ -10,3 +10,4 @@ pub mod Trees
 pub mod Answers
 pub mod Numbers
 pub mod Reading
+pub mod Samples
