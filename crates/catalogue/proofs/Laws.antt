@@ -16,6 +16,7 @@ use Rattle.word.specs.Record.{kindAt, opAt, aAt, cAt}
 use Rattle.word.proofs.Laws.{headed-long}
 use Rattle.cell.specs.Types.{typeRule}
 use Rattle.catalogue.specs.Fault.{namedRule, oneTable, oneColumn, tablesBefore, columnsBefore, tableUsed, columnUsed, hasColumn, tableFault, columnFault, faultBy, faultAt, lowest, checkOf}
+use Rattle.catalogue.proofs.Rising.{tables-to-begin, columns-to-begin, table-unused, column-unused, tables-to-again, columns-to-again}
 use Rattle.catalogue.specs.declared.Verdict.{Verdict}
 use Rattle.catalogue.specs.declared.Verdict.the-variants.{Tables, Refused}
 
@@ -79,7 +80,7 @@ module _ (c : List ℕ) (n : ℕ) {X : Bool} (j : ℕ) (x : X ≡ hasColumn c (n
   unfolding hasColumn
   has-column-none h = let e : n - j ≡ 0 = omega arith in sym (x ∙ rw e)
 
-pub ruleset looks = (table-used-here, table-used-again, table-used-none, column-used-table, column-used-here, column-used-again, column-used-none, has-column-here, has-column-table, has-column-again, has-column-none, needs)
+pub ruleset looks = (table-unused, column-unused, table-used-here, table-used-again, table-used-none, column-used-table, column-used-here, column-used-again, column-used-none, has-column-here, has-column-table, has-column-again, has-column-none, needs)
 
 -- the fault of a table's record
 module _ (c : List ℕ) (i : ℕ) (name op : ℕ) (named : Bool) (e : name ≡ aAt c i) (f : op ≡ opAt c i) (g : named ≡ namedRule name op) where
@@ -190,7 +191,7 @@ one-column-few kind t r i e h = rw e (go (eqb kind 1) (eqb kind 2))
     go false true = omega arith
     go false false = omega arith
 
-pub ruleset lows = (lowest-begin, lowest-here, lowest-again, lowest-none, tables-begin, columns-begin, tables-again, columns-again, one-table-few, one-column-few, needs)
+pub ruleset lows = (lowest-begin, lowest-here, lowest-again, lowest-none, tables-begin, columns-begin, tables-again, columns-again, one-table-few, one-column-few, tables-to-begin, columns-to-begin, tables-to-again, columns-to-again, needs)
 
 -- header, count and length
 pub both : (a b : Bool) → (a && b) ≡ true → (a ≡ true) × (b ≡ true)

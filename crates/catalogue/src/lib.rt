@@ -8,9 +8,10 @@ pub use lookup::start_at;
 pub use lookup::starts;
 pub use lookup::type_at;
 ghost use mathlib.Core.Path.{_≡_};
-ghost use Prim.Native.Nat.{ℕ, _+_, _-_, _*_, _≤_, _<_};
+ghost use Prim.Native.Nat.{ℕ, _+_, _-_, _*_, _≤_, _<_, max};
 ghost use lib.ListN.{length};
 ghost use Rattle.catalogue.specs.Fault.{namedRule, oneTable, oneColumn, tableUsed, columnUsed, hasColumn, tableFault, columnFault, faultBy, lowest, checkOf};
+ghost use Rattle.catalogue.specs.Rising.{TablesTo, ColumnsTo, tableTop, columnTop};
 
 // The number of tables; or the number of the refusal and its place.
 pub enum Verdict {
@@ -44,11 +45,38 @@ fn one_column(kind: u8, columns: usize) -> usize
     if kind == 2 { columns + 1 } else { columns }
 }
 
-// Whether a table record before record i has the name.
-fn table_used(cat: &[u8], i: usize, name: u16) -> bool
+fn higher(x: u16, y: u16) -> u16
+    ensures { λ r. ⌜ r ≡ max x y ⌝ }
+{
+    if x < y { y } else { x }
+}
+
+// The highest name of a table, one record further.
+fn table_top(kind: u8, name: u16, top: u16) -> u16
+    ensures { λ r. ⌜ r ≡ tableTop kind name top ⌝ }
+{
+    if kind == 1 { higher(top, name) } else { top }
+}
+
+// The highest name of a column of the last table, one record further.
+fn column_top(kind: u8, name: u16, top: u16) -> u16
+    ensures { λ r. ⌜ r ≡ columnTop kind name top ⌝ }
+{
+    if kind == 1 {
+        return 0;
+    }
+    if kind == 2 { higher(top, name) } else { top }
+}
+
+// Whether a table record before record i has the name; top is the highest name of one.
+fn table_used(cat: &[u8], i: usize, name: u16, top: u16) -> bool
     requires { ⌜ 8 + 8 * i ≤ length (now cat) ⌝ }
+    requires { ⌜ TablesTo (now cat) i top ⌝ }
     ensures { λ r. ⌜ r ≡ tableUsed (now (cat .entry)) name i ⌝ }
 {
+    if top < name {
+        return false;
+    }
     let mut j = i;
     while 0 < j {
         j -= 1;
@@ -61,11 +89,15 @@ fn table_used(cat: &[u8], i: usize, name: u16) -> bool
     false
 }
 
-// Whether a column record before record i, and after the last table record, has the name.
-fn column_used(cat: &[u8], i: usize, name: u16) -> bool
+// Whether a column record before record i, and after the last table record, has the name; top is the highest name of one.
+fn column_used(cat: &[u8], i: usize, name: u16, top: u16) -> bool
     requires { ⌜ 8 + 8 * i ≤ length (now cat) ⌝ }
+    requires { ⌜ ColumnsTo (now cat) i top ⌝ }
     ensures { λ r. ⌜ r ≡ columnUsed (now (cat .entry)) name i ⌝ }
 {
+    if top < name {
+        return false;
+    }
     let mut j = i;
     while 0 < j {
         j -= 1;
@@ -101,8 +133,9 @@ fn has_column(cat: &[u8], n: usize, i: usize) -> bool
 }
 
 // The fault of a table's record, with so many tables before it; 0 for none.
-fn table_fault(cat: &[u8], n: usize, i: usize, tables: usize) -> u16
+fn table_fault(cat: &[u8], n: usize, i: usize, tables: usize, top: u16) -> u16
     requires { ⌜ (8 + 8 * n ≤ length (now cat)) × (i < n) ⌝ }
+    requires { ⌜ TablesTo (now cat) i top ⌝ }
     ensures { λ r. ⌜ r ≡ tableFault (now (cat .entry)) n i tables ⌝ }
 {
     let name = word::a_at(cat, i);
@@ -110,7 +143,7 @@ fn table_fault(cat: &[u8], n: usize, i: usize, tables: usize) -> u16
     let named = named_rule(name, op);
     if named & (tables < 32) {
         if has_column(cat, n, i + 1) {
-            if table_used(cat, i, name) { 24 } else { 0 }
+            if table_used(cat, i, name, top) { 24 } else { 0 }
         } else {
             23
         }
@@ -120,8 +153,9 @@ fn table_fault(cat: &[u8], n: usize, i: usize, tables: usize) -> u16
 }
 
 // The fault of a column's record, with so many tables before it, the last with so many columns; 0 for none.
-fn column_fault(cat: &[u8], i: usize, tables: usize, columns: usize) -> u16
+fn column_fault(cat: &[u8], i: usize, tables: usize, columns: usize, top: u16) -> u16
     requires { ⌜ 8 + 8 * i + 8 ≤ length (now cat) ⌝ }
+    requires { ⌜ ColumnsTo (now cat) i top ⌝ }
     ensures { λ r. ⌜ r ≡ columnFault (now (cat .entry)) i tables columns ⌝ }
 {
     let name = word::a_at(cat, i);
@@ -130,7 +164,11 @@ fn column_fault(cat: &[u8], i: usize, tables: usize, columns: usize) -> u16
     if named & ((0 < tables) & (columns < 64)) {
         let ty = word::c_at(cat, i);
         if cell::type_rule(ty) {
-            if column_used(cat, i, name) { 24 } else { 0 }
+            if column_used(cat, i, name, top) {
+                24
+            } else {
+                0
+            }
         } else {
             23
         }
@@ -139,17 +177,26 @@ fn column_fault(cat: &[u8], i: usize, tables: usize, columns: usize) -> u16
     }
 }
 
-// The fault of a record, by its kind.
-fn fault_by(cat: &[u8], n: usize, i: usize, tables: usize, columns: usize) -> u16
+// The fault of a record, by its kind; with the highest names before it.
+fn fault_by(
+    cat: &[u8],
+    n: usize,
+    i: usize,
+    tables: usize,
+    columns: usize,
+    highest: u16,
+    top: u16,
+) -> u16
     requires { ⌜ (8 + 8 * n ≤ length (now cat)) × (i < n) ⌝ }
+    requires { ⌜ TablesTo (now cat) i highest × ColumnsTo (now cat) i top ⌝ }
     ensures { λ r. ⌜ r ≡ faultBy (now (cat .entry)) n i tables columns ⌝ }
 {
     let kind = word::kind_at(cat, i);
     if kind == 1 {
-        return table_fault(cat, n, i, tables);
+        return table_fault(cat, n, i, tables, highest);
     }
     if kind == 2 {
-        return column_fault(cat, i, tables, columns);
+        return column_fault(cat, i, tables, columns, top);
     }
     23
 }
@@ -162,14 +209,19 @@ fn records(cat: &[u8], n: usize) -> Verdict
     let mut i: usize = 0;
     let mut tables: usize = 0;
     let mut columns: usize = 0;
+    let mut highest: u16 = 0;
+    let mut top: u16 = 0;
     while i < n {
-        let fault = fault_by(cat, n, i, tables, columns);
+        let fault = fault_by(cat, n, i, tables, columns, highest, top);
         if fault != 0 {
             return Verdict::Refused(fault, i);
         }
         let kind = word::kind_at(cat, i);
+        let name = word::a_at(cat, i);
         tables = one_table(kind, tables);
         columns = one_column(kind, columns);
+        highest = table_top(kind, name, highest);
+        top = column_top(kind, name, top);
         i += 1;
     }
     Verdict::Tables(tables)

@@ -1,17 +1,16 @@
 -- What an entry has for a name, and the search from the innermost scope outward: one law for each place of the code.
 -- Assumes nothing.
 use Prim.Native.Nat.{ℕ, zero, suc, _+_, _-_, _<_, _≤_, min}
-use mathlib.Core.Path.{_≡_, refl, sym, ap, _∙_}
-use mathlib.Core.Bool.{Bool, true, false, _&&_}
-use mathlib.Core.List.{List, [], _∷_}
+use mathlib.Core.Path.{_≡_, refl, sym, subst, _∙_}
+use mathlib.Core.Bool.{true, false, not, _&&_}
+use mathlib.Core.List.{List, _∷_}
 use native.Mathlib.Omega.{arith}
 use borrow.Author.Needs.{needs}
 use borrow.Author.Tests.{ne-eqb}
-use lib.ListN.{getD, List·getD-map}
-use lib.Dec.{eqb}
+use lib.ListN.{getD}
+use lib.Dec.{T as Holds, eqb}
 use Rattle.class.specs.declared.Info.{Info}
 use Rattle.class.specs.declared.Info.the-variants.{Fixed}
-use Rattle.cell.specs.declared.Type.the-variants as T
 use Rattle.catalogue.specs.Tables.{tableAt}
 use Rattle.scope.specs.Scopes.{Hit, column, bound, Only, none, one, more, onlyOf, inTable, inTabs, inScope, nearest, find}
 use Rattle.scope.specs.Table.{tabsAt, openOf, blank, scopesOf, infosOf, foundOf}
@@ -62,22 +61,18 @@ module _ (c : List ℕ) (n : ℕ) (s : Scope) (name q a : ℕ) where
 pub ruleset entries = (tabs-begin, tabs-again, tabs-done, local-yes, local-no, block-whole, needs)
 
 -- from the innermost outward
-near-some : (is : List Info) (x y : Only Hit) → isFound (foundOf is x) ≡ true → foundOf is (nearest x y) ≡ foundOf is x
+near-some : (is : List Info) (x y : Only Hit) → Holds (isFound (foundOf is x)) → foundOf is (nearest x y) ≡ foundOf is x
 unfolding nearest isFound foundOf
-near-some is none y e = absurd (let z : _≡_ {A = ℕ} 0 1 = cc in omega arith)
+near-some is none y e = absurd e
 near-some is (one h) y e = refl
 near-some is more y e = refl
 
-near-none : (is : List Info) (x y : Only Hit) → isFound (foundOf is x) ≡ false → foundOf is (nearest x y) ≡ foundOf is y
+near-none : (is : List Info) (x y : Only Hit) → Holds (not (isFound (foundOf is x))) → foundOf is (nearest x y) ≡ foundOf is y
 unfolding nearest isFound foundOf
 near-none is none y e = refl
-near-none is (one (column a b k t u)) y e = absurd (let z : _≡_ {A = ℕ} 0 1 = cc in omega arith)
-near-none is (one (bound a t)) y e = absurd (let z : _≡_ {A = ℕ} 0 1 = cc in omega arith)
-near-none is more y e = absurd (let z : _≡_ {A = ℕ} 0 1 = cc in omega arith)
-
--- what an array of entries reads past its end: it says what no entry says
-abbrev pub unset : Scope
-unset = record { count = 0; tables = []; name = 0; ty = T.Null; info = Fixed 0 }
+near-none is (one (column a b k t u)) y e = absurd e
+near-none is (one (bound a t)) y e = absurd e
+near-none is more y e = absurd e
 
 module _ (t : List Scope) where
   -- the class of the scope that is a outward
@@ -88,13 +83,6 @@ module _ (t : List Scope) where
   info-outward (suc d) (suc a) h = let e : suc d - (suc a + 1) ≡ d - (a + 1) = omega arith in rw e (info-outward d a (omega arith))
 
   module _ (c : List ℕ) (n depth name q : ℕ) where
-    open-unset : (i : ℕ) → openOf c n (getD t i unset) ≡ openOf c n (getD t i blank)
-    unfolding openOf
-    open-unset i = sym (List·getD-map (openOf c n) t i unset) ∙ List·getD-map (openOf c n) t i blank
-
-    info-unset : (i : ℕ) → getD t i unset .info ≡ getD t i blank .info
-    info-unset i = sym (List·getD-map (λ (s : Scope). s .info) t i unset) ∙ List·getD-map (λ (s : Scope). s .info) t i blank
-
     unfoldable pub scopesLeft : ℕ → ℕ → Found
     scopesLeft a d = foundOf (infosOf t depth) (find name q a (scopesOf c n t d))
 
@@ -108,22 +96,18 @@ module _ (t : List Scope) where
     scope-next (suc d) h = let e : suc d - 1 ≡ d = omega arith in rw e
 
     module _ (a d : ℕ) (X : Found) (e : X ≡ scopesLeft a d) where
-      module _ (h : Found) (p : Bool) (f : 0 < d) (l : a + d ≡ depth) (g : h ≡ foundIn (getD t (d - 1) unset .info) (onlyOf (inScope name q a (openOf c n (getD t (d - 1) unset))))) (k : p ≡ isFound h) where
+      module _ (h : Found) (f : 0 < d) (l : a + d ≡ depth) (g : h ≡ foundIn (getD t (d - 1) blank .info) (onlyOf (inScope name q a (openOf c n (getD t (d - 1) blank))))) where
         here : h ≡ foundOf (infosOf t depth) (onlyOf (inScope name q a (openOf c n (getD t (d - 1) blank))))
-        here =
-            let m : depth - (a + 1) ≡ d - 1 = omega arith in
-            g ∙ rw (open-unset (d - 1), info-unset (d - 1), same-scope (infosOf t depth) name q a, info-outward depth a (omega arith), m)
+        here = let m : depth - (a + 1) ≡ d - 1 = omega arith in g ∙ rw (same-scope (infosOf t depth) name q a, info-outward depth a (omega arith), m)
 
-        pub find-here : p ≡ true → h ≡ X
+        pub find-here : Holds (isFound h) → h ≡ X
         unfolding scopesLeft find
-        find-here y = sym (e ∙ rw (scope-next d f) (near-some _ _ _ (ap isFound (sym here) ∙ sym k ∙ y) ∙ sym here))
+        find-here y = sym (e ∙ rw (scope-next d f) (near-some _ _ _ (subst (λ (z : Found). Holds (isFound z)) here y) ∙ sym here))
 
-        pub find-again : p ≡ false → X ≡ scopesLeft (a + 1) (d - 1)
+        pub find-again : Holds (not (isFound h)) → X ≡ scopesLeft (a + 1) (d - 1)
         unfolding scopesLeft find
-        find-again y = e ∙ rw (scope-next d f) (near-none _ _ _ (ap isFound (sym here) ∙ sym k ∙ y))
+        find-again y = e ∙ rw (scope-next d f) (near-none _ _ _ (subst (λ (z : Found). Holds (not (isFound z))) here y))
 
-      pub find-none : d ≤ 0 → F.None ≡ X
+      pub find-none : d ≡ 0 → F.None ≡ X
       unfolding scopesLeft find scopesOf foundOf
-      find-none f = let k : d ≡ 0 = omega arith in sym (e ∙ rw k)
-
-pub ruleset searching = (find-begin, find-here, find-again, find-none, needs)
+      find-none k = sym (e ∙ rw k)

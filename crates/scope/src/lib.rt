@@ -1,6 +1,7 @@
 // The open scopes in a small table, one entry for each block and each LET body: push an entry, and find a name.
 // The definitions are in specs/: Scopes has the rule of names, Table what an entry says, Blocks a block's tables.
 mod entry;
+mod lent;
 
 pub use entry::block_class;
 pub use entry::local_scope;
@@ -8,6 +9,8 @@ pub use entry::open_block;
 pub use entry::row_info;
 pub use entry::table_class_at;
 pub use entry::table_number;
+pub use lent::look_up;
+pub use lent::push;
 ghost use mathlib.Core.Path.{_≡_};
 ghost use mathlib.Core.Bool.{true, false, cond};
 ghost use Prim.Native.Nat.{_+_, _*_, _≤_, _<_, min};
@@ -185,32 +188,21 @@ fn in_scope(s: Scope, cat: &[u8], n: usize, name: u16, q: u16, a: u16) -> Found
     in_block(tables, four(count), cat, n, name, q, a)
 }
 
-// The table with one more scope open.
+// The table with one more scope open: it is lent to `push` for one call.
 pub fn pushed(t: [Scope; 16], depth: usize, s: Scope) -> [Scope; 16]
     requires { ⌜ depth < 16 ⌝ }
     ensures { λ r. ⌜ r ≡ set t depth s ⌝ }
 {
     let mut u = t;
-    u[depth] = s;
+    push(&mut u, depth, s);
     u
 }
 
-// The one match in the nearest scope that has any.
+// The one match in the nearest scope that has any: the table is lent to `look_up` for one call.
 pub fn find(t: [Scope; 16], cat: &[u8], n: usize, depth: usize, name: u16, q: u16) -> Found
     requires { ⌜ (8 + 8 * n ≤ length (now cat)) × (n ≤ 2080) ⌝ }
     requires { ⌜ depth ≤ 16 ⌝ }
     ensures { λ r. ⌜ r ≡ foundOf (infosOf t depth) (find name q 0 (scopesOf (now (cat .entry)) n t depth)) ⌝ }
 {
-    let mut d = depth;
-    let mut a: u16 = 0;
-    while 0 < d {
-        d -= 1;
-        let s = t[d];
-        let h = in_scope(s, cat, n, name, q, a);
-        if is_found(h) {
-            return h;
-        }
-        a += 1;
-    }
-    Found::None
+    look_up(&t, cat, n, depth, name, q)
 }

@@ -79,9 +79,18 @@ fn half(b: &[u8], at: usize) -> u16
     requires { ⌜ at < 4398046511104 ⌝ }
     ensures { λ r. ⌜ r ≡ u16At (now (b .entry)) at ⌝ }
 {
+    if at + 2 <= b.len() {
+        return word::u16_at(b, at);
+    }
     let low = wide(byte(b, at));
     let high = wide(byte(b, at + 1));
     low + 256 * high
+}
+
+fn long(x: u32) -> u64
+    ensures { λ r. ⌜ (r ≡ x) × (r < 4294967296) ⌝ }
+{
+    x as u64
 }
 
 // The 32 bits at a place.
@@ -89,6 +98,9 @@ fn whole(b: &[u8], at: usize) -> u64
     requires { ⌜ at + 2 < 4398046511104 ⌝ }
     ensures { λ r. ⌜ (r ≡ u32At (now (b .entry)) at) × (r < 4294967296) ⌝ }
 {
+    if at + 4 <= b.len() {
+        return long(word::u32_at(b, at));
+    }
     let low = wider(half(b, at));
     let high = wider(half(b, at + 2));
     low + 65536 * high

@@ -8,10 +8,10 @@ use Rattle.catalogue.proofs.column_used.Statement.{statement}
 use Rattle.catalogue.proofs.column_used.Tie as tie
 
 abbrev Inv-loop : tie.InvT-loop
-Inv-loop cat i name j₀ j = (j ≤ i) × (columnUsed cat name i ≡ columnUsed cat name j)
+Inv-loop cat i name top j₀ j = (j ≤ i) × (columnUsed cat name i ≡ columnUsed cat name j)
 
 abbrev μ-loop : tie.MeasureT-loop
-μ-loop cat i name j₀ j = j
+μ-loop cat i name top j₀ j = j
 
 pub column-used-spec : {M : Type 1} → statement M
 column-used-spec =
@@ -19,6 +19,8 @@ column-used-spec =
     (tie.spec
     Inv-loop
     μ-loop
+    -- returns
+    (λ c. search looks)
     -- loop-holds
     (λ c. search looks)
     -- sub-j
