@@ -4,8 +4,10 @@ pub mod Children
 pub mod Constants
 pub mod Induction
 pub mod Laws
+pub mod Made
 pub mod Nodes
 pub mod Read
+pub mod Readers
 pub mod Samples
 pub mod Says
 pub mod Turns

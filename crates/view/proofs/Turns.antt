@@ -1,14 +1,12 @@
 -- One law for each place of the walk: its premises are what the code has found there, its conclusion is what is asked there. For `search turns`.
 -- Assumes nothing.
-use Prim.Native.Nat.{ℕ, _+_, _-_, _*_, _<_, _≤_, _^_}
+use Prim.Native.Nat.{ℕ, _+_, _-_, _*_, _<_, _≤_}
 use mathlib.Core.Path.{_≡_, sym, ap, _∙_}
 use mathlib.Core.Bool.{Bool, true, false, _&&_}
 use mathlib.Core.List.{List}
 use native.Mathlib.Omega.{arith}
 use lib.ListN.{length}
 use lib.Dec.{eqb}
-use mir.Val.{Fits}
-use mir.Syntax.{w64}
 use borrow.Author.Needs.{needs}
 use borrow.Author.Tests.{eq-eqb, ne-eqb, lt-ltb, le-ltb, eqb-true}
 use Rattle.word.specs.Bytes.{within}
@@ -48,8 +46,9 @@ module _ (v : List ℕ) (n slot at : ℕ) where
     unfolding enter enterNode metOf
     enter-elsewhere z g = rw (lt-ltb at n h, ← e, ← f, ne-eqb s 0 z, ne-eqb s slot g)
 
-  pub next-fits : {r : Met} {nd : Node} → r ≡ metOf (enter v n slot at) → r ≡ M.Found nd → 8 + 8 * n ≤ length v → length v < 2 ^ 64 → Fits w64 (at + 1)
-  next-fits e f g h = let x = enter-found v n slot at e f .1 in omega arith
+  -- the record that was entered stands in the view
+  pub stands : {r : Met} {nd : Node} → r ≡ metOf (enter v n slot at) → r ≡ M.Found nd → 8 + 8 * n ≤ length v → 8 + 8 * at + 8 ≤ length v
+  stands e f g = let x = enter-found v n slot at e f .1 in omega arith
 
 pub ruleset enters = (enter-early, enter-bad, enter-here, enter-elsewhere, needs)
 
@@ -63,9 +62,9 @@ module _ (v : List ℕ) (n d at : ℕ) {r : Met} (e : r ≡ metOf (enter v n 2 a
   unfolding parseTable andThen walkOf
   table-deep f z = rw (enter-found v n 2 at e f .0, eq-eqb d 0 z)
 
-  pub table-here : {nd : Node} → r ≡ M.Found nd → (d ≡ 0 → ⊥) → W.Next (at + 1) ≡ walkOf (parseTable v n d at)
+  pub table-here : {nd : Node} {m : ℕ} → r ≡ M.Found nd → (d ≡ 0 → ⊥) → m ≡ at + 1 → W.Next m ≡ walkOf (parseTable v n d at)
   unfolding parseTable andThen walkOf
-  table-here f z = rw (enter-found v n 2 at e f .0, ne-eqb d 0 z)
+  table-here f z j = rw (enter-found v n 2 at e f .0, ne-eqb d 0 z, j)
 
 -- tables and values: X is the answer that the contract states
 module _ {A : Type 0} (p : ℕ → Parsed A) (c i m : ℕ) {X : Walk} where
@@ -81,7 +80,7 @@ module _ {A : Type 0} (p : ℕ → Parsed A) (c i m : ℕ) {X : Walk} where
 pub many-begin : {A : Type 0} (p : ℕ → Parsed A) (c m : ℕ) → walkOf (many p c m) ≡ walkOf (many p (c - 0) m)
 many-begin p c m = let h : c - 0 ≡ c = omega arith in rw h
 
-pub ruleset tabling = (table-not, table-deep, table-here, next-fits, needs)
+pub ruleset tabling = (table-not, table-deep, table-here, stands, needs)
 
 pub ruleset repeats = (many-not, many-again, many-done, many-begin, needs)
 
@@ -97,41 +96,43 @@ module _ (v : List ℕ) (n d at : ℕ) {r : Met} (e : r ≡ metOf (enter v n 1 a
     found : {md : Node} → nd ≡ md → parseValue v n d at ≡ parseNode v n (d - 1) (parseValue v n (d - 1)) at md
     found g = value-node v n d at z (enter-found v n 1 at e (f ∙ ap M.Found g) .0)
 
-    pub value-const : {t : Ty} {x : Value} → nd ≡ Const t x → W.Next (at + 1) ≡ walkOf (parseValue v n d at)
-    unfolding parseNode
-    value-const g = to-next (found g)
+    -- m is the number of the next record
+    module _ {m : ℕ} (j : m ≡ at + 1) where
+      pub value-const : {t : Ty} {x : Value} → nd ≡ Const t x → W.Next m ≡ walkOf (parseValue v n d at)
+      unfolding parseNode
+      value-const g = ap W.Next j ∙ to-next (found g)
 
-    pub value-col : {name q : ℕ} → nd ≡ Col name q → W.Next (at + 1) ≡ walkOf (parseValue v n d at)
-    unfolding parseNode
-    value-col g = to-next (found g)
+      pub value-col : {name q : ℕ} → nd ≡ Col name q → W.Next m ≡ walkOf (parseValue v n d at)
+      unfolding parseNode
+      value-col g = ap W.Next j ∙ to-next (found g)
 
-    pub value-classof : {name q : ℕ} → nd ≡ Classof name q → W.Next (at + 1) ≡ walkOf (parseValue v n d at)
-    unfolding parseNode
-    value-classof g = to-next (found g)
+      pub value-classof : {name q : ℕ} → nd ≡ Classof name q → W.Next m ≡ walkOf (parseValue v n d at)
+      unfolding parseNode
+      value-classof g = ap W.Next j ∙ to-next (found g)
 
-    pub value-binop : {op : ℕ} {w : Walk} → nd ≡ Binop op → w ≡ walkOf (many (parseValue v n (d - 1)) 2 (at + 1)) → w ≡ walkOf (parseValue v n d at)
-    unfolding parseNode
-    value-binop {op} g h = h ∙ sym (ap walkOf (found g) ∙ two-walk (parseValue v n (d - 1)) (at + 1) (ast.Exp.binop at op))
+      pub value-binop : {op : ℕ} {w : Walk} → nd ≡ Binop op → w ≡ walkOf (many (parseValue v n (d - 1)) 2 m) → w ≡ walkOf (parseValue v n d at)
+      unfolding parseNode
+      value-binop {op} g h = (rw j at h) ∙ sym (ap walkOf (found g) ∙ two-walk (parseValue v n (d - 1)) (at + 1) (ast.Exp.binop at op))
 
-    pub value-neg : {w : Walk} → nd ≡ Not → w ≡ walkOf (many (parseValue v n (d - 1)) 1 (at + 1)) → w ≡ walkOf (parseValue v n d at)
-    unfolding parseNode
-    value-neg g h = h ∙ sym (ap walkOf (found g) ∙ one-walk (parseValue v n (d - 1)) (at + 1) (ast.Exp.neg at))
+      pub value-neg : {w : Walk} → nd ≡ Not → w ≡ walkOf (many (parseValue v n (d - 1)) 1 m) → w ≡ walkOf (parseValue v n d at)
+      unfolding parseNode
+      value-neg g h = (rw j at h) ∙ sym (ap walkOf (found g) ∙ one-walk (parseValue v n (d - 1)) (at + 1) (ast.Exp.neg at))
 
-    pub value-if : {w : Walk} → nd ≡ If → w ≡ walkOf (many (parseValue v n (d - 1)) 3 (at + 1)) → w ≡ walkOf (parseValue v n d at)
-    unfolding parseNode
-    value-if g h = h ∙ sym (ap walkOf (found g) ∙ three-walk (parseValue v n (d - 1)) (at + 1) (ast.Exp.if at))
+      pub value-if : {w : Walk} → nd ≡ If → w ≡ walkOf (many (parseValue v n (d - 1)) 3 m) → w ≡ walkOf (parseValue v n d at)
+      unfolding parseNode
+      value-if g h = (rw j at h) ∙ sym (ap walkOf (found g) ∙ three-walk (parseValue v n (d - 1)) (at + 1) (ast.Exp.if at))
 
-    pub value-let : {name : ℕ} {w : Walk} → nd ≡ Let name → w ≡ walkOf (many (parseValue v n (d - 1)) 2 (at + 1)) → w ≡ walkOf (parseValue v n d at)
-    unfolding parseNode
-    value-let {name} g h = h ∙ sym (ap walkOf (found g) ∙ two-walk (parseValue v n (d - 1)) (at + 1) (ast.Exp.letin at name))
+      pub value-let : {name : ℕ} {w : Walk} → nd ≡ Let name → w ≡ walkOf (many (parseValue v n (d - 1)) 2 m) → w ≡ walkOf (parseValue v n d at)
+      unfolding parseNode
+      value-let {name} g h = (rw j at h) ∙ sym (ap walkOf (found g) ∙ two-walk (parseValue v n (d - 1)) (at + 1) (ast.Exp.letin at name))
 
-    pub value-exists : {a : ℕ} {w : Walk} → nd ≡ Exists a → w ≡ walkOf (parseBlock v n (d - 1) (parseValue v n (d - 1)) a 0 (at + 1)) → w ≡ walkOf (parseValue v n d at)
-    unfolding parseNode
-    value-exists {a} g h = h ∙ sym (ap walkOf (found g) ∙ walk-map (parseBlock v n (d - 1) (parseValue v n (d - 1)) a 0 (at + 1)) _)
+      pub value-exists : {a : ℕ} {w : Walk} → nd ≡ Exists a → w ≡ walkOf (parseBlock v n (d - 1) (parseValue v n (d - 1)) a 0 m) → w ≡ walkOf (parseValue v n d at)
+      unfolding parseNode
+      value-exists {a} g h = (rw j at h) ∙ sym (ap walkOf (found g) ∙ walk-map (parseBlock v n (d - 1) (parseValue v n (d - 1)) a 0 (at + 1)) _)
 
-    pub value-single : {a : ℕ} {w : Walk} → nd ≡ Single a → w ≡ walkOf (parseBlock v n (d - 1) (parseValue v n (d - 1)) a 1 (at + 1)) → w ≡ walkOf (parseValue v n d at)
-    unfolding parseNode
-    value-single {a} g h = h ∙ sym (ap walkOf (found g) ∙ walk-map (parseBlock v n (d - 1) (parseValue v n (d - 1)) a 1 (at + 1)) _)
+      pub value-single : {a : ℕ} {w : Walk} → nd ≡ Single a → w ≡ walkOf (parseBlock v n (d - 1) (parseValue v n (d - 1)) a 1 m) → w ≡ walkOf (parseValue v n d at)
+      unfolding parseNode
+      value-single {a} g h = (rw j at h) ∙ sym (ap walkOf (found g) ∙ walk-map (parseBlock v n (d - 1) (parseValue v n (d - 1)) a 1 (at + 1)) _)
 
     pub value-table : {a : ℕ} → nd ≡ Table a → W.Refused 4 at ≡ walkOf (parseValue v n d at)
     unfolding parseNode
@@ -157,7 +158,7 @@ module _ (v : List ℕ) (n d : ℕ) (p : ℕ → Parsed Exp) (nt nv at : ℕ) {x
     pub block-values : {l : ℕ} {w : Walk} → y ≡ W.Next l → w ≡ walkOf (many p nv l) → w ≡ walkOf (parseBlock v n d p nt nv at)
     block-values h i = i ∙ sym (where-next v n d p nt nv at (walk-next _ e f .1) (walk-next _ g h .1))
 
-pub ruleset turns = (value-not, value-too-deep, value-const, value-col, value-classof, value-binop, value-neg, value-if, value-let, value-exists, value-single, value-table, value-select, value-bad, block-not, block-where-not, block-values, next-fits, needs)
+pub ruleset turns = (value-not, value-too-deep, value-const, value-col, value-classof, value-binop, value-neg, value-if, value-let, value-exists, value-single, value-table, value-select, value-bad, block-not, block-where-not, block-values, stands, needs)
 
 -- root
 module _ (v : List ℕ) (n : ℕ) {r : Met} (e : r ≡ metOf (enter v n 3 0)) where
@@ -165,15 +166,15 @@ module _ (v : List ℕ) (n : ℕ) {r : Met} (e : r ≡ metOf (enter v n 3 0)) wh
   root-not f = sym (root-refused v n (met-refused _ e f))
 
   module _ {nd : Node} (f : r ≡ M.Found nd) where
-    module _ {a b : ℕ} {w : Walk} (g : nd ≡ Select a b) (h : w ≡ walkOf (parseBlock v n 15 (parseValue v n 15) a b 1)) where
+    module _ {a b l : ℕ} {w : Walk} (g : nd ≡ Select a b) (j : l ≡ 0 + 1) (h : w ≡ walkOf (parseBlock v n 15 (parseValue v n 15) a b l)) where
       pub root-block-not : {k p : ℕ} → w ≡ W.Refused k p → W.Refused k p ≡ walkOf (parseRoot v n)
-      root-block-not i = sym (root-block-refused v n a b (enter-found v n 3 0 e (f ∙ ap M.Found g) .0) (walk-refused _ h i))
+      root-block-not i = sym (root-block-refused v n a b (enter-found v n 3 0 e (f ∙ ap M.Found g) .0) (walk-refused _ (rw j at h) i))
 
       pub root-done : {m : ℕ} → w ≡ W.Next m → m ≡ n → W.Next m ≡ walkOf (parseRoot v n)
-      root-done i j = sym (root-end v n a b (enter-found v n 3 0 e (f ∙ ap M.Found g) .0) (walk-next _ h i .1) j)
+      root-done i o = sym (root-end v n a b (enter-found v n 3 0 e (f ∙ ap M.Found g) .0) (walk-next _ (rw j at h) i .1) o)
 
       pub root-over : {m : ℕ} → w ≡ W.Next m → (m ≡ n → ⊥) → W.Refused 4 m ≡ walkOf (parseRoot v n)
-      root-over i j = sym (root-more v n a b (enter-found v n 3 0 e (f ∙ ap M.Found g) .0) (walk-next _ h i .1) j)
+      root-over i o = sym (root-more v n a b (enter-found v n 3 0 e (f ∙ ap M.Found g) .0) (walk-next _ (rw j at h) i .1) o)
 
     other : {md : Node} → nd ≡ md → (slotOf md ≡ 3 → ⊥) → W.Refused 4 0 ≡ walkOf (parseRoot v n)
     other g h = root-other v n (enter-found v n 3 0 e (f ∙ ap M.Found g) .0) h
@@ -222,7 +223,7 @@ module _ (v : List ℕ) (n : ℕ) {r : Met} (e : r ≡ metOf (enter v n 3 0)) wh
     unfolding slotOf
     root-bad g = other g (omega arith)
 
-pub ruleset rooting = (root-not, root-block-not, root-done, root-over, root-const, root-binop, root-neg, root-if, root-exists, root-single, root-table, root-col, root-classof, root-let, root-bad, needs)
+pub ruleset rooting = (root-not, stands, root-block-not, root-done, root-over, root-const, root-binop, root-neg, root-if, root-exists, root-single, root-table, root-col, root-classof, root-let, root-bad, needs)
 
 -- check
 module _ (v : List ℕ) {o : Bool} (e : o ≡ headed drq v) where

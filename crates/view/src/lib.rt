@@ -1,5 +1,7 @@
 // The structural check of a view: its records stand in prefix order, and are walked once.
 // The definitions are in specs/: Record says what a record means, Parse what a view is.
+mod reader;
+
 ghost use mathlib.Core.Path.{_≡_};
 ghost use mathlib.Core.Bool.{_&&_};
 ghost use Prim.Native.Nat.{_+_, _*_, _^_, _≤_, _<_};
@@ -203,7 +205,15 @@ pub fn node_at(view: &[u8], i: usize) -> Node
     requires { ⌜ 8 + 8 * i + 8 ≤ length (now view) ⌝ }
     ensures { λ r. ⌜ r ≡ nodeAt (now (view .entry)) i ⌝ }
 {
-    node_of(word::rec_at(view, i))
+    reader::here(reader::make(view, i))
+}
+
+// The number of the record after record i of a view.
+fn place_after(view: &[u8], i: usize) -> usize
+    requires { ⌜ 8 + 8 * i + 8 ≤ length (now view) ⌝ }
+    ensures { λ r. ⌜ r ≡ i + 1 ⌝ }
+{
+    reader::place(reader::next(reader::make(view, i)))
 }
 
 // Where a node may stand: 1 a value's place, 2 a table's, 3 the root's; 0 nowhere.
@@ -257,7 +267,7 @@ fn table(view: &[u8], n: usize, at: usize, depth: usize) -> Walk
             if depth == 0 {
                 Walk::Refused(5, at)
             } else {
-                Walk::Next(at + 1)
+                Walk::Next(place_after(view, at))
             }
         }
     }
@@ -295,7 +305,7 @@ fn value(view: &[u8], n: usize, at: usize, depth: usize) -> Walk
             if depth == 0 {
                 return Walk::Refused(5, at);
             }
-            let next = at + 1;
+            let next = place_after(view, at);
             let down = depth - 1;
             match node {
                 Node::Const(_, _) => Walk::Next(next),
@@ -358,16 +368,19 @@ fn root(view: &[u8], n: usize) -> Walk
     match enter(view, n, 3, 0) {
         Met::Refused(k, p) => Walk::Refused(k, p),
         Met::Found(node) => match node {
-            Node::Select(tables, values) => match block(view, n, 1, tables, values, 15) {
-                Walk::Refused(k, p) => Walk::Refused(k, p),
-                Walk::Next(end) => {
-                    if end == n {
-                        Walk::Next(end)
-                    } else {
-                        Walk::Refused(4, end)
+            Node::Select(tables, values) => {
+                let next = place_after(view, 0);
+                match block(view, n, next, tables, values, 15) {
+                    Walk::Refused(k, p) => Walk::Refused(k, p),
+                    Walk::Next(end) => {
+                        if end == n {
+                            Walk::Next(end)
+                        } else {
+                            Walk::Refused(4, end)
+                        }
                     }
                 }
-            },
+            }
             Node::Const(_, _) => Walk::Refused(4, 0),
             Node::Binop(_) => Walk::Refused(4, 0),
             Node::Not => Walk::Refused(4, 0),

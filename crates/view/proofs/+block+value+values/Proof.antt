@@ -14,6 +14,7 @@ use Rattle.view.proofs.values.Reads as values
 use Rattle.view.proofs.values.Kinds as values-kinds
 use Rattle.view.proofs.+block+value+values.Lts-values as values-lts
 use Rattle.view.proofs.enter.Reads as enter-reads
+use Rattle.view.proofs.place_after.Reads as place-after-reads
 use Rattle.view.proofs.tables.Reads as tables-reads
 use Rattle.view.specs.Parse.{many, parseValue, walkOf}
 use Rattle.view.proofs.Turns.{turns, repeats}
@@ -77,6 +78,8 @@ pub +block+value+values-spec : {M : Type 1} → statement M
     (λ t. value-lts.spec (
       enter-reads.Asked,
       enter-reads.Learnt,
+      place-after-reads.Asked,
+      place-after-reads.Learnt,
       values-below t,
       values.Post,
       block-below t,
@@ -88,7 +91,7 @@ pub +block+value+values-spec : {M : Type 1} → statement M
     (λ c. search turns)
     (λ c. search turns)
     (λ c. search turns)
-    (λ c. search turns)
+    (λ c κs. search turns)
     (λ c. search turns)
     (λ c. search turns)
     (λ c. search turns)

@@ -13,6 +13,7 @@ root-spec =
     (λ c. search rooting)
     (λ c. search rooting)
     (λ c κs. search rooting)
+    (λ c κs. search rooting)
     (λ c. search rooting)
     (λ c. search rooting)
     (λ c. search rooting)

@@ -11,7 +11,7 @@ table-spec =
     (λ c κs. search tabling)
     (λ c. search tabling)
     (λ c. search tabling)
-    (λ c. search tabling)
+    (λ c κs. search tabling)
     (λ c. search tabling)
     (λ c. search tabling)
     (λ c. search tabling))

@@ -1,0 +1,55 @@
+// A reader that remembers its place in the lent view bytes: few and thin functions over the view's slice and a record's number.
+// `decoded` reads one record from slice and number; `node_at` and `place_after` make a reader for one call, so their callers hold none.
+ghost use mathlib.Core.Path.{_≡_};
+ghost use Prim.Native.Nat.{_+_, _*_, _≤_};
+ghost use lib.ListN.{length};
+ghost use Rattle.view.specs.Record.{nodeAt};
+use crate::Node;
+use crate::node_of;
+
+// The lent bytes of a view, and the number of the record at its place.
+pub struct Reader<'a> {
+    pub view: &'a [u8],
+    pub at: usize,
+}
+
+// The node of record i of a view.
+fn decoded(view: &[u8], i: usize) -> Node
+    requires { ⌜ 8 + 8 * i + 8 ≤ length (now view) ⌝ }
+    ensures { λ r. ⌜ r ≡ nodeAt (now (view .entry)) i ⌝ }
+{
+    node_of(word::rec_at(view, i))
+}
+
+// A reader at a place of a view.
+pub fn make<'a>(view: &'a [u8], at: usize) -> Reader<'a>
+    ensures { λ r. ⌜ (r .view ≡ view .entry) × (r .at ≡ at) ⌝ }
+{
+    Reader { view, at }
+}
+
+// The node at the reader's place.
+pub fn here<'a>(r: Reader<'a>) -> Node
+    requires { ⌜ 8 + 8 * r .at + 8 ≤ length (now (r .view)) ⌝ }
+    ensures { λ o. ⌜ o ≡ nodeAt (now (r .entry .view)) (r .entry .at) ⌝ }
+{
+    decoded(r.view, r.at)
+}
+
+// The reader moved on by one record.
+pub fn next<'a>(r: Reader<'a>) -> Reader<'a>
+    requires { ⌜ 8 + 8 * r .at + 8 ≤ length (now (r .view)) ⌝ }
+    ensures { λ o. ⌜ (o .view ≡ r .entry .view) × (o .at ≡ r .entry .at + 1) ⌝ }
+{
+    Reader {
+        view: r.view,
+        at: r.at + 1,
+    }
+}
+
+// The number of the record at the reader's place.
+pub fn place<'a>(r: Reader<'a>) -> usize
+    ensures { λ n. ⌜ n ≡ r .entry .at ⌝ }
+{
+    r.at
+}
