@@ -3,6 +3,7 @@
 pub mod Inversion
 pub mod Weights
 pub mod Leaves
+pub mod Levels
 pub mod Tables
 pub mod Equations
 pub mod Turns

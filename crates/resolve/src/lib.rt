@@ -46,6 +46,7 @@ pub enum Verdict {
 }
 
 // A value: names and types, with depth levels left, in the scopes of t that are open.
+// One table serves all its parts, and one answer, so that a level takes little of the stack: the place where LET opens a scope is cleared first.
 pub fn value(
     cat: &[u8],
     starts: &[u16; 32],
@@ -61,49 +62,84 @@ pub fn value(
 {
     let next = at + 1;
     let down = depth - 1;
+    let mut w = t;
+    w[deep] = scope::local_scope(0, cell::Type::Null, class::Info::Fixed(0));
+    let u = w;
+    let mut r = Typed::Refused(3, at);
     match view::node_at(view, at) {
         view::Node::Const(ty, _) => Typed::Is(steps::leaf(ty, class::Info::Fixed(f.k), next)),
-        view::Node::Binop(op) => match value(cat, starts, view, f, next, down, t, deep) {
-            Typed::Refused(i, p) => Typed::Refused(i, p),
-            Typed::Is(x) => match value(cat, starts, view, f, x.next, down, t, deep) {
+        view::Node::Binop(op) => {
+            r = value(cat, starts, view, f, next, down, u, deep);
+            match r {
                 Typed::Refused(i, p) => Typed::Refused(i, p),
-                Typed::Is(y) => steps::with_two(at, op, x, y),
-            },
-        },
-        view::Node::Not => match value(cat, starts, view, f, next, down, t, deep) {
-            Typed::Refused(i, p) => Typed::Refused(i, p),
-            Typed::Is(x) => steps::with_not(at, x),
-        },
-        view::Node::If => match value(cat, starts, view, f, next, down, t, deep) {
-            Typed::Refused(i, p) => Typed::Refused(i, p),
-            Typed::Is(x) => match value(cat, starts, view, f, x.next, down, t, deep) {
-                Typed::Refused(i, p) => Typed::Refused(i, p),
-                Typed::Is(y) => match value(cat, starts, view, f, y.next, down, t, deep) {
-                    Typed::Refused(i, p) => Typed::Refused(i, p),
-                    Typed::Is(z) => steps::with_if(at, x, y, z),
-                },
-            },
-        },
-        view::Node::Exists(a) => block(cat, starts, view, f, at, depth, t, deep, a as usize, false),
-        view::Node::Single(a) => block(cat, starts, view, f, at, depth, t, deep, a as usize, true),
-        view::Node::Col(name, q) => steps::of_column(at, scope::find(t, cat, f.nc, deep, name, q)),
-        view::Node::Classof(name, q) => steps::of_class(
-            at,
-            scope::find(t, cat, f.nc, deep, name, q),
-        ),
-        view::Node::Let(name) => match value(cat, starts, view, f, next, down, t, deep) {
-            Typed::Refused(i, p) => Typed::Refused(i, p),
-            Typed::Is(x) => {
-                let ty = x.ty;
-                let info = x.info;
-                let s = scope::local_scope(name, ty, info);
-                let u = scope::pushed(t, deep, s);
-                match value(cat, starts, view, f, x.next, down, u, deep + 1) {
-                    Typed::Refused(i, p) => Typed::Refused(i, p),
-                    Typed::Is(y) => Typed::Is(steps::with_let(x, y)),
+                Typed::Is(x) => {
+                    r = value(cat, starts, view, f, x.next, down, u, deep);
+                    match r {
+                        Typed::Refused(i, p) => Typed::Refused(i, p),
+                        Typed::Is(y) => steps::with_two(at, op, x, y),
+                    }
                 }
             }
-        },
+        }
+        view::Node::Not => {
+            r = value(cat, starts, view, f, next, down, u, deep);
+            match r {
+                Typed::Refused(i, p) => Typed::Refused(i, p),
+                Typed::Is(x) => steps::with_not(at, x),
+            }
+        }
+        view::Node::If => {
+            r = value(cat, starts, view, f, next, down, u, deep);
+            match r {
+                Typed::Refused(i, p) => Typed::Refused(i, p),
+                Typed::Is(x) => {
+                    r = value(cat, starts, view, f, x.next, down, u, deep);
+                    match r {
+                        Typed::Refused(i, p) => Typed::Refused(i, p),
+                        Typed::Is(y) => {
+                            r = value(cat, starts, view, f, y.next, down, u, deep);
+                            match r {
+                                Typed::Refused(i, p) => Typed::Refused(i, p),
+                                Typed::Is(z) => {
+                                    r = steps::with_if(at, x, y, z);
+                                    r
+                                }
+                            }
+                        }
+                    }
+                }
+            }
+        }
+        view::Node::Exists(a) => {
+            r = block(cat, starts, view, f, at, depth, u, deep, a as usize, false);
+            r
+        }
+        view::Node::Single(a) => {
+            r = block(cat, starts, view, f, at, depth, u, deep, a as usize, true);
+            r
+        }
+        view::Node::Col(name, q) => steps::of_column(at, scope::find(u, cat, f.nc, deep, name, q)),
+        view::Node::Classof(name, q) => steps::of_class(
+            at,
+            scope::find(u, cat, f.nc, deep, name, q),
+        ),
+        view::Node::Let(name) => {
+            r = value(cat, starts, view, f, next, down, u, deep);
+            match r {
+                Typed::Refused(i, p) => Typed::Refused(i, p),
+                Typed::Is(x) => {
+                    let ty = x.ty;
+                    let info = x.info;
+                    w[deep] = scope::local_scope(name, ty, info);
+                    let u = w;
+                    r = value(cat, starts, view, f, x.next, down, u, deep + 1);
+                    match r {
+                        Typed::Refused(i, p) => Typed::Refused(i, p),
+                        Typed::Is(y) => Typed::Is(steps::with_let(x, y)),
+                    }
+                }
+            }
+        }
         view::Node::Table(_) => Typed::Refused(4, at),
         view::Node::Select(_, _) => Typed::Refused(4, at),
         view::Node::Bad => Typed::Refused(3, at),
@@ -134,11 +170,13 @@ fn block(
     }
     let s = o.scope;
     let u = scope::pushed(t, deep, s);
-    match value(cat, starts, view, f, next + count, down, u, deep + 1) {
+    let mut r = value(cat, starts, view, f, next + count, down, u, deep + 1);
+    match r {
         Typed::Refused(i, p) => Typed::Refused(i, p),
         Typed::Is(x) => {
             if single {
-                match value(cat, starts, view, f, x.next, down, u, deep + 1) {
+                r = value(cat, starts, view, f, x.next, down, u, deep + 1);
+                match r {
                     Typed::Refused(i, p) => Typed::Refused(i, p),
                     Typed::Is(y) => blocks::with_single(s, cat, f.nc, at, x, y),
                 }
