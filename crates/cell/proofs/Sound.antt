@@ -44,7 +44,7 @@ fits : (t : Ty) (b : Bool) (v : Value) → (So b → HasTy t v) → HasTy t (con
 fits t true v h = h refl
 fits t false v h = ok-null
 
-fixed-fits : (p s : ℕ) (m : ℤ) → digitsRule p s ≡ true → HasTy (T.Fixed p s) (cutFixed p s m)
+pub fixed-fits : (p s : ℕ) (m : ℤ) → digitsRule p s ≡ true → HasTy (T.Fixed p s) (cutFixed p s m)
 unfolding cutFixed
 fixed-fits p s m e = fits (T.Fixed p s) (digits p m) (Fixed s m) (λ h. ok-fixed (rw (e, h)))
 
@@ -56,7 +56,7 @@ interval-fits : (f : ℕ) (m : ℤ) → HasTy (T.Interval f) (cutInterval m)
 unfolding cutInterval
 interval-fits f m = fits (T.Interval f) (word32 m) (Interval m) ok-interval
 
-either : (t : Ty) (b : Bool) (v w : Value) → HasTy t v → HasTy t w → HasTy t (cond b v w)
+pub either : (t : Ty) (b : Bool) (v w : Value) → HasTy t v → HasTy t w → HasTy t (cond b v w)
 either t true v w h k = h
 either t false v w h k = k
 

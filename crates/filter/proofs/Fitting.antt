@@ -25,7 +25,7 @@ use Rattle.resolve.specs.Infos.{tableClass}
 use Rattle.tree.specs.Tree.{Tree, CONST, BINOP, NOT, IF, EXISTS, VALUE, DATA, CELLCLASS, ROWCLASS, LOCAL, LOCALCLASS, CONV, BIND, BINDC, LUB, DOM, AGG, CLASS}
 use Rattle.tree.specs.Trans.{D, C, Class, fixed, tree, asTree, bound, infoOf, byInfo, nums, join, joins, joinAll, sameFixed, choice, letClass, rowClasses, blockClass}
 use Rattle.packed.specs.Constants.{Constant}
-use Rattle.run.specs.Stands.{Fits, scopes}
+use Rattle.run.specs.Stands.{FoldFits, Fits, scopes}
 use Rattle.reading.proofs.Lists.{all-append}
 
 -- ---- what a resolved value keeps
@@ -53,8 +53,8 @@ Sound (expr.Expr.neg x) = Sound x
 Sound (expr.Expr.conv p s x) = Sound x × (p ≤ 9) × (s ≤ 4)
 Sound (expr.Expr.if c x y) = Sound c × Sound x × Sound y
 Sound (expr.Expr.letin x y) = Sound x × Sound y
-Sound (expr.Expr.exists ts w) = TabsFit ts × Sound w
-Sound (expr.Expr.single ts w v) = TabsFit ts × Sound w × Sound v
+Sound (expr.Expr.exists q ts w) = TabsFit ts × Sound w × FoldFits q
+Sound (expr.Expr.single q ts w v) = TabsFit ts × Sound w × Sound v
 
 -- how many scopes it opens, one inside the other
 unfoldable pub deep : Expr → ℕ
@@ -67,8 +67,8 @@ deep (expr.Expr.neg x) = deep x
 deep (expr.Expr.conv p s x) = deep x
 deep (expr.Expr.if c x y) = max (deep c) (max (deep x) (deep y))
 deep (expr.Expr.letin x y) = max (deep x) (1 + deep y)
-deep (expr.Expr.exists ts w) = 1 + deep w
-deep (expr.Expr.single ts w v) = 1 + max (deep w) (deep v)
+deep (expr.Expr.exists q ts w) = 1 + deep w
+deep (expr.Expr.single q ts w v) = 1 + max (deep w) (deep v)
 
 -- ---- the data tree
 
@@ -86,8 +86,8 @@ data-fits (expr.Expr.neg x) h = data-fits x h
 data-fits (expr.Expr.conv p s x) (h, l, m) = (data-fits x h, l, m)
 data-fits (expr.Expr.if c x y) (f, h, g) = (data-fits c f, data-fits x h, data-fits y g)
 data-fits (expr.Expr.letin x y) (h, g) = (data-fits x h, data-fits y g)
-data-fits (expr.Expr.exists ts w) (t, h) = rw (nums-length ts) (t .some, t .few, data-fits w h)
-data-fits (expr.Expr.single ts w v) (t, h, g) = rw (nums-length ts) (t .some, t .few, data-fits w h, data-fits v g)
+data-fits (expr.Expr.exists q ts w) (t, h, f) = rw (nums-length ts) (t .some, t .few, data-fits w h, f)
+data-fits (expr.Expr.single q ts w v) (t, h, g) = rw (nums-length ts) (t .some, t .few, data-fits w h, data-fits v g)
 
 pub data-scopes : (x : Expr) → scopes (D x) ≤ deep x
 unfolding D scopes deep
@@ -100,8 +100,8 @@ data-scopes (expr.Expr.neg x) = data-scopes x
 data-scopes (expr.Expr.conv p s x) = data-scopes x
 data-scopes (expr.Expr.if c x y) = omega (arith, data-scopes c, data-scopes x, data-scopes y)
 data-scopes (expr.Expr.letin x y) = omega (arith, data-scopes x, data-scopes y)
-data-scopes (expr.Expr.exists ts w) = omega (arith, data-scopes w)
-data-scopes (expr.Expr.single ts w v) = omega (arith, data-scopes w, data-scopes v)
+data-scopes (expr.Expr.exists q ts w) = omega (arith, data-scopes w)
+data-scopes (expr.Expr.single q ts w v) = omega (arith, data-scopes w, data-scopes v)
 
 -- ---- classes
 
@@ -224,9 +224,9 @@ class-fits k l (expr.Expr.letin x y) (h, f) is g =
     let i = class-fits k l x h is g in
     let-fits (deep x) (deep y) (D x) (C k is x) (C k (infoOf (C k is x) ∷ is) y) (data-fits x h) (data-scopes x) i
     (class-fits k l y f (infoOf (C k is x) ∷ is) (words-more (infoOf (C k is x)) is (info-fits (deep x) (C k is x) i) g))
-class-fits k l (expr.Expr.exists ts w) (t, h) is g =
+class-fits k l (expr.Expr.exists q ts w) (t, h, f) is g =
     block-fits (deep w) ts (C k (Fixed 0 ∷ is) w ∷ []) t (class-fits k l w h (Fixed 0 ∷ is) (words-block is g), tt)
-class-fits k l (expr.Expr.single ts w v) (t, h, f) is g =
+class-fits k l (expr.Expr.single q ts w v) (t, h, f) is g =
     let d = max (deep w) (deep v) in
     block-fits d ts (C k (Fixed 0 ∷ is) w ∷ choice (D w) (C k (Fixed 0 ∷ is) v) (fixed 0) ∷ []) t (
       fits-more (deep w) d (C k (Fixed 0 ∷ is) w) (omega arith) (class-fits k l w h (Fixed 0 ∷ is) (words-block is g)),

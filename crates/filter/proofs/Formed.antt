@@ -33,8 +33,8 @@ Formed (ast.Exp.const at t v) = Constant t v
 Formed (ast.Exp.binop at op l r) = Formed l × Formed r
 Formed (ast.Exp.neg at e) = Formed e
 Formed (ast.Exp.if at c l r) = Formed c × Formed l × Formed r
-Formed (ast.Exp.exists at names w) = (1 ≤ length names) × (length names ≤ 4) × Formed w
-Formed (ast.Exp.single at names w v) = (1 ≤ length names) × (length names ≤ 4) × Formed w × Formed v
+Formed (ast.Exp.exists at q names w) = (1 ≤ length names) × (length names ≤ 4) × Formed w
+Formed (ast.Exp.single at q names w v) = (1 ≤ length names) × (length names ≤ 4) × Formed w × Formed v
 Formed (ast.Exp.col at name q) = Unit {0}
 Formed (ast.Exp.classof at name q) = Unit {0}
 Formed (ast.Exp.letin at name v b) = Formed v × Formed b
@@ -45,8 +45,8 @@ nest (ast.Exp.const at t v) = 0
 nest (ast.Exp.binop at op l r) = max (nest l) (nest r)
 nest (ast.Exp.neg at e) = nest e
 nest (ast.Exp.if at c l r) = max (nest c) (max (nest l) (nest r))
-nest (ast.Exp.exists at names w) = 1 + nest w
-nest (ast.Exp.single at names w v) = 1 + max (nest w) (nest v)
+nest (ast.Exp.exists at q names w) = 1 + nest w
+nest (ast.Exp.single at q names w v) = 1 + max (nest w) (nest v)
 nest (ast.Exp.col at name q) = 0
 nest (ast.Exp.classof at name q) = 0
 nest (ast.Exp.letin at name v b) = max (nest v) (1 + nest b)
@@ -83,10 +83,10 @@ value-formed v h n =
     (λ d at op a b m k z l g p q. (p, q))
     (λ d at name a b m k z l g p q. (p, q))
     (λ d at c a b m j k z l g p q r. (p, q, r))
-    (λ d at a w k z l g f p.
+    (λ d at a o w k z l g f p.
     let s = exists-few v at (sym g) refl in
     rw (names-length v (at + 1) a) (s .0, s .1, p))
-    (λ d at a w e m k z l g f p q.
+    (λ d at a o w e m k z l g f p q.
     let s = single-few v at (sym g) refl in
     rw (names-length v (at + 1) a) (s .0, s .1, p, q))
 
@@ -102,8 +102,8 @@ value-nest v n =
     (λ d at op a b m k z l g p q. omega arith)
     (λ d at name a b m k z l g p q. omega arith)
     (λ d at c a b m j k z l g p q r. omega arith)
-    (λ d at a w k z l g f p. omega arith)
-    (λ d at a w e m k z l g f p q. omega arith)
+    (λ d at a o w k z l g f p. omega arith)
+    (λ d at a o w e m k z l g f p q. omega arith)
 
 -- ---- a view
 

@@ -30,6 +30,7 @@ use Rattle.view.specs.declared.Node.the-variants.{Const, Binop, Not, If, Exists
 use Rattle.scope.specs.Scopes.{Open, local, Hit, column, bound, Only, none, one, more, find}
 use Rattle.scope.specs.Blocks.{Tabs, all, missing, tablesNamed, opened}
 use Rattle.resolve.specs.Expr.{Expr}
+use Rattle.resolve.specs.Totals.{pickType}
 use Rattle.resolve.specs.Resolve as names
 use Rattle.resolve.specs.Resolve.{Out, good, bad, then, colOut, classOut, onTabs, ruled, needBool, resolve, Outs, goods, bads, alsoOut, resolveAll, Resolved, withValues, withTest, withTabs, resolveView}
 use Rattle.tree.specs.Tree.{SelectTree, sizeSelect}
@@ -92,8 +93,8 @@ module _ (v : List ℕ) (n d : ℕ) (value : ℕ → Parsed Exp) (h : (at : ℕ)
   read-node at Not = read-then (value (at + 1)) _ (h (at + 1)) (λ e a. tt)
   read-node at If =
       read-then (value (at + 1)) _ (h (at + 1)) (λ c a. read-then (value a) _ (h a) (λ l b. read-then (value b) _ (h b) (λ r e. tt)))
-  read-node at (Exists tables) = read-then (parseBlock v n d value tables 0 (at + 1)) _ (read-block tables 0 (at + 1)) (λ b next. tt)
-  read-node at (Single tables) = read-then (parseBlock v n d value tables 1 (at + 1)) _ (read-block tables 1 (at + 1)) (λ b next. tt)
+  read-node at (Exists tables q) = read-then (parseBlock v n d value tables 0 (at + 1)) _ (read-block tables 0 (at + 1)) (λ b next. tt)
+  read-node at (Single tables q) = read-then (parseBlock v n d value tables 1 (at + 1)) _ (read-block tables 1 (at + 1)) (λ b next. tt)
   read-node at (TableNode name) = some 3
   read-node at (SelectNode tables values) = some 3
   read-node at (Col name q) = tt
@@ -113,8 +114,8 @@ read-root v n (Const t x) = some 3
 read-root v n (Binop op) = some 3
 read-root v n Not = some 3
 read-root v n If = some 3
-read-root v n (Exists tables) = some 3
-read-root v n (Single tables) = some 3
+read-root v n (Exists tables q) = some 3
+read-root v n (Single tables q) = some 3
 read-root v n (TableNode name) = some 3
 read-root v n (SelectNode tables values) = read-block v n 15 (parseValue v n 15) (read-value v n 15) tables values 1
 read-root v n (Col name q) = some 3
@@ -185,13 +186,13 @@ found cat Γ (ast.Exp.if at c l r) =
     found-then (resolve cat Γ c) _ (found cat Γ c) (λ x s.
     found-then (resolve cat Γ l) _ (found cat Γ l) (λ y t.
     found-then (resolve cat Γ r) _ (found cat Γ r) (λ z u. found-bool at s _ (found-ruled at (limbType t u) _ (λ w. tt)))))
-found cat Γ (ast.Exp.exists at ns w) =
+found cat Γ (ast.Exp.exists at q ns w) =
     found-tabs (tablesNamed cat ns) _ (λ ts.
     found-then (resolve cat (opened ts ∷ Γ) w) _ (found cat (opened ts ∷ Γ) w) (λ x t. found-bool at t _ tt))
-found cat Γ (ast.Exp.single at ns w v) =
+found cat Γ (ast.Exp.single at q ns w v) =
     found-tabs (tablesNamed cat ns) _ (λ ts.
     found-then (resolve cat (opened ts ∷ Γ) w) _ (found cat (opened ts ∷ Γ) w) (λ x s.
-    found-then (resolve cat (opened ts ∷ Γ) v) _ (found cat (opened ts ∷ Γ) v) (λ y t. found-bool at s _ tt)))
+    found-then (resolve cat (opened ts ∷ Γ) v) _ (found cat (opened ts ∷ Γ) v) (λ y t. found-bool at s _ (found-ruled at (pickType q t) _ (λ u. tt)))))
 found cat Γ (ast.Exp.col at name q) = found-col at (find name q 0 Γ)
 found cat Γ (ast.Exp.classof at name q) = found-class at (find name q 0 Γ)
 found cat Γ (ast.Exp.letin at name v b) =

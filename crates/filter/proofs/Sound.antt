@@ -26,12 +26,16 @@ use Rattle.catalogue.proofs.Listed.{info-is, tclass-is, row-is, TableStands, Co
 use Rattle.store.specs.Rows.{All}
 use Rattle.view.specs.Ast.{TabName, Exp}
 use Rattle.view.specs.Ast as ast
+use Rattle.view.specs.declared.Fold.{Fold}
+use Rattle.view.specs.declared.Fold.the-variants as fold
 use Rattle.view.proofs.Laws.{and-left, and-right}
 use Rattle.scope.specs.Scopes.{Open, block, local, column, one, find}
 use Rattle.scope.specs.Blocks.{all, tablesNamed, opened}
 use Rattle.resolve.specs.Expr.{Expr}
 use Rattle.resolve.specs.Expr as expr
+use Rattle.resolve.specs.Totals.{foldType}
 use Rattle.resolve.specs.Resolve.{good, brought, resolve}
+use Rattle.run.specs.Stands.{FoldFits}
 use Rattle.reading.specs.Demands.{Bytes}
 use Rattle.reading.proofs.Lists.{all-imp, all-map}
 use Rattle.reading.proofs.Inversion.{const-elim, binop-elim, neg-elim, if-elim, exists-elim, single-elim, col-elim, classof-elim, let-elim}
@@ -137,6 +141,12 @@ limb-sound t w x e h = go (sameType t w)
     go true = (h, refl)
     go false = let (l, m) = digits-small w e in ((h, l, m), refl)
 
+-- a count's digits
+fold-fits : (f : Fold) → inRule (foldType f) ≡ true → FoldFits f
+unfolding foldType digitsOf
+fold-fits fold.Any e = tt
+fold-fits (fold.Count p) e = digits-small (T.Fixed p 0) e .0
+
 -- ---- THE LAW
 
 module _ (cat : List Table) (ruled : TablesRule cat) (small : All TableSmall cat) where
@@ -164,13 +174,13 @@ module _ (cat : List Table) (ruled : TablesRule cat) (small : All TableSmall cat
       let (q, d) = limb-sound a u z w i′ in
       let (q′, d′) = limb-sound b u t w i″ in
       rw p ((i, q, q′), omega (arith, j, j′, j″, d, d′))
-  sound (ast.Exp.exists at names w) o h Γ g s x u e =
-      exists-elim cat Γ x u at names w e λ ts y f k p q.
+  sound (ast.Exp.exists at a names w) o h Γ g s x u e =
+      exists-elim cat Γ x u at a names w e λ ts y f k p q.
       let t = named-fit cat names ts small f (h .0) (h .1) in
-      let (i, j) = sound w o (h .2) (opened ts ∷ Γ) (tables-rule cat names ts ruled f, g) (opened-small ts (t .small), s) y T.Boolean k in
-      rw p ((t, i), omega (arith, j))
-  sound (ast.Exp.single at names w v) o h Γ g s x u e =
-      single-elim cat Γ x u at names w v e λ ts y z f k m p.
+      let (i, j) = sound w (o .1) (h .2) (opened ts ∷ Γ) (tables-rule cat names ts ruled f, g) (opened-small ts (t .small), s) y T.Boolean k in
+      rw p ((t, i, fold-fits a (o .0)), omega (arith, j))
+  sound (ast.Exp.single at a names w v) o h Γ g s x u e =
+      single-elim cat Γ x u at a names w v e λ ts y z f k m r p.
       let t = named-fit cat names ts small f (h .0) (h .1) in
       let (i, j) = sound w (o .0) (h .2) (opened ts ∷ Γ) (tables-rule cat names ts ruled f, g) (opened-small ts (t .small), s) y T.Boolean k in
       let (i′, j′) = sound v (o .1) (h .3) (opened ts ∷ Γ) (tables-rule cat names ts ruled f, g) (opened-small ts (t .small), s) z u m in

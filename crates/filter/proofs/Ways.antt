@@ -30,7 +30,9 @@ use Rattle.view.proofs.Whole as whole
 use Rattle.resolve.specs.Expr.{Select}
 use Rattle.resolve.specs.Resolve as resolve
 use Rattle.resolve.specs.Claims as claims
+use Rattle.resolve.specs.Sizes.{sumsOf}
 use Rattle.resolve.specs.declared.Files.{Files}
+use Rattle.resolve.specs.declared.Sums.{Sums}
 use Rattle.resolve.specs.declared.Verdict as names
 use Rattle.resolve.specs.declared.Verdict.the-variants as namings
 use Rattle.tree.specs.Tree.{SelectTree, sizeSelect, treeFile}
@@ -117,15 +119,20 @@ unfolding viewBy resolvedBy claims.resolvedBy
 by-names cat (ok b end) = refl
 by-names cat (refused i p) = refl
 
-names-refused : (x : resolve.Resolved) (r : names.Verdict) (i p : ℕ) → r ≡ claims.verdictOf x → r ≡ namings.Refused i p → resolvedBy x ≡ refusal i p
+names-refused : (k : ℕ) (x : resolve.Resolved) (r : names.Verdict) (i p : ℕ) → r ≡ claims.verdictOf k x → r ≡ namings.Refused i p → resolvedBy x ≡ refusal i p
 unfolding claims.verdictOf resolvedBy
-names-refused (resolve.select s ts) r i p e f = absurd (let z : _≡_ {A = ℕ} 0 1 = cc in omega arith)
-names-refused (resolve.refused j m) r i p e f = let a : j ≡ i = cc in let b : m ≡ p = cc in rw (a, b)
+names-refused k (resolve.select s ts) r i p e f = absurd (let z : _≡_ {A = ℕ} 0 1 = cc in omega arith)
+names-refused k (resolve.refused j m) r i p e f = let a : j ≡ i = cc in let b : m ≡ p = cc in rw (a, b)
 
-names-fine : (x : resolve.Resolved) (r : names.Verdict) → r ≡ claims.verdictOf x → r ≡ namings.Fine → resolvedBy x ≡ fine (selectIn x)
+names-fine : (k : ℕ) (u : Sums) (x : resolve.Resolved) (r : names.Verdict) → r ≡ claims.verdictOf k x → r ≡ namings.Fine u → resolvedBy x ≡ fine (selectIn x)
 unfolding claims.verdictOf resolvedBy selectIn
-names-fine (resolve.select s ts) r e f = refl
-names-fine (resolve.refused j m) r e f = absurd (let z : _≡_ {A = ℕ} 0 1 = cc in omega arith)
+names-fine k u (resolve.select s ts) r e f = refl
+names-fine k u (resolve.refused j m) r e f = absurd (let z : _≡_ {A = ℕ} 0 1 = cc in omega arith)
+
+names-sums : (k : ℕ) (u : Sums) (x : resolve.Resolved) (r : names.Verdict) → r ≡ claims.verdictOf k x → r ≡ namings.Fine u → u ≡ sumsOf k (selectIn x)
+unfolding claims.verdictOf selectIn
+names-sums k u (resolve.select s ts) r e f = cc
+names-sums k u (resolve.refused j m) r e f = absurd (let z : _≡_ {A = ℕ} 0 1 = cc in omega arith)
 
 module _ (c v : List ℕ) (k q room : ℕ) where
   -- the tables that the code reads are the catalogue's
@@ -137,15 +144,15 @@ module _ (c v : List ℕ) (k q room : ℕ) where
   unfolding treeOf viewBy andThen
   view-denied r i p e f = rw (whole.denied v e f)
 
-  names-denied : (n : ℕ) (r : names.Verdict) (i p : ℕ) → n ≡ countAt c → r ≡ claims.verdictOf (claims.resolvedBy (tablesFrom c n n 0) (parse.parseView v)) → r ≡ namings.Refused i p →
+  names-denied : (n l : ℕ) (r : names.Verdict) (i p : ℕ) → n ≡ countAt c → r ≡ claims.verdictOf l (claims.resolvedBy (tablesFrom c n n 0) (parse.parseView v)) → r ≡ namings.Refused i p →
       treeOf c v k q room ≡ refusal i p
   unfolding andThen
-  names-denied n r i p e f g = by-files n e ∙ rw (names-refused (claims.resolvedBy (tablesFrom c n n 0) (parse.parseView v)) r i p f g)
+  names-denied n l r i p e f g = by-files n e ∙ rw (names-refused l (claims.resolvedBy (tablesFrom c n n 0) (parse.parseView v)) r i p f g)
 
-  names-taken : (f : Files) (r : names.Verdict) → f .nc ≡ countAt c → f .k ≡ k → r ≡ claims.verdictOf (claims.resolvedBy (tablesFrom c (f .nc) (f .nc) 0) (parse.parseView v)) →
-      r ≡ namings.Fine → treeOf c v k q room ≡ treeFits room (treeAt c v f q)
+  names-taken : (f : Files) (u : Sums) (r : names.Verdict) → f .nc ≡ countAt c → f .k ≡ k → r ≡ claims.verdictOf (f .k) (claims.resolvedBy (tablesFrom c (f .nc) (f .nc) 0) (parse.parseView v)) →
+      r ≡ namings.Fine u → treeOf c v k q room ≡ treeFits room (treeAt c v f q)
   unfolding andThen treeAt selectAt
-  names-taken f r e p g h = by-files (f .nc) e ∙ rw (p, names-fine (claims.resolvedBy (tablesFrom c (f .nc) (f .nc) 0) (parse.parseView v)) r g h)
+  names-taken f u r e p g h = by-files (f .nc) e ∙ rw (p, names-fine (f .k) u (claims.resolvedBy (tablesFrom c (f .nc) (f .nc) 0) (parse.parseView v)) r g h)
 
 -- what the calls require
 module _ (c : List ℕ) (t : ℕ) (e : fault.checkOf c ≡ catalogues.Tables t) where
@@ -168,22 +175,28 @@ module _ (c : List ℕ) (t : ℕ) (e : fault.checkOf c ≡ catalogues.Tables t) 
         taken = sym h ∙ i;
       }
 
-  pub cat-viewed : (n k : ℕ) (ss v : List ℕ) {r : view.Verdict} {m : ℕ} {w : names.Verdict} → n ≡ countAt c → ss ≡ startsArray c n → r ≡ parse.checkOf v → r ≡ views.Records m →
-      w ≡ claims.verdictOf (claims.resolvedBy (tablesFrom c n n 0) (parse.parseView v)) → w ≡ namings.Fine → Viewed c ss v (record { nc = n; tables = t; n = m; k = k })
-  cat-viewed n k ss v f g h i j l = record { given = cat-view n k ss v f g h i; fine = sym j ∙ l }
+  pub cat-viewed : (n k : ℕ) (ss v : List ℕ) {r : view.Verdict} {m : ℕ} {w : names.Verdict} {u : Sums} → n ≡ countAt c → ss ≡ startsArray c n → r ≡ parse.checkOf v → r ≡ views.Records m →
+      w ≡ claims.verdictOf k (claims.resolvedBy (tablesFrom c n n 0) (parse.parseView v)) → w ≡ namings.Fine u → Viewed c ss v (record { nc = n; tables = t; n = m; k = k })
+  cat-viewed n k ss v {r} {m} {w} {u} f g h i j l = record { given = cat-view n k ss v f g h i; sums = u; fine = sym j ∙ l }
+
+-- what the walk has counted
+pub sums-are : (c v : List ℕ) (n t m k : ℕ) {w : names.Verdict} {u : Sums} → w ≡ claims.verdictOf k (claims.resolvedBy (tablesFrom c n n 0) (parse.parseView v)) → w ≡ namings.Fine u →
+    u ≡ sumsOf k (selectAt c v (record { nc = n; tables = t; n = m; k = k }))
+unfolding selectAt
+sums-are c v n t m k {w} {u} e g = names-sums k u (claims.resolvedBy (tablesFrom c n n 0) (parse.parseView v)) w e g
 
 -- the ways out
 module _ (c v : List ℕ) (k q : ℕ) (o : List ℕ) {x : Result} where
   pub tree-view : {r : view.Verdict} {i p : ℕ} → r ≡ parse.checkOf v → r ≡ views.Refused i p → x ≡ denied i p → TreeGiven (treeOf c v k q (length o)) o o x
   tree-view {r} {i} {p} e f g = tree-refused (treeOf c v k q (length o)) i p o x (view-denied c v k q (length o) r i p e f) g
 
-  pub tree-names : (n : ℕ) {r : names.Verdict} {i p : ℕ} → n ≡ countAt c → r ≡ claims.verdictOf (claims.resolvedBy (tablesFrom c n n 0) (parse.parseView v)) → r ≡ namings.Refused i p →
+  pub tree-names : (n l : ℕ) {r : names.Verdict} {i p : ℕ} → n ≡ countAt c → r ≡ claims.verdictOf l (claims.resolvedBy (tablesFrom c n n 0) (parse.parseView v)) → r ≡ namings.Refused i p →
       x ≡ denied i p → TreeGiven (treeOf c v k q (length o)) o o x
-  tree-names n {r} {i} {p} e f g h = tree-refused (treeOf c v k q (length o)) i p o x (names-denied c v k q (length o) n r i p e f g) h
+  tree-names n l {r} {i} {p} e f g h = tree-refused (treeOf c v k q (length o)) i p o x (names-denied c v k q (length o) n l r i p e f g) h
 
-  pub tree-fine : (f : Files) {o′ : List ℕ} {r : names.Verdict} → f .nc ≡ countAt c → f .k ≡ k → r ≡ claims.verdictOf (claims.resolvedBy (tablesFrom c (f .nc) (f .nc) 0) (parse.parseView v)) →
-      r ≡ namings.Fine → TreeGiven (treeFits (length o) (treeAt c v f q)) o o′ x → TreeGiven (treeOf c v k q (length o)) o o′ x
-  tree-fine f {o′} {r} e p g h t = subst (λ (y : Checked SelectTree). TreeGiven y o o′ x) (sym (names-taken c v k q (length o) f r e p g h)) t
+  pub tree-fine : (f : Files) {o′ : List ℕ} {r : names.Verdict} {u : Sums} → f .nc ≡ countAt c → f .k ≡ k → r ≡ claims.verdictOf (f .k) (claims.resolvedBy (tablesFrom c (f .nc) (f .nc) 0) (parse.parseView v)) →
+      r ≡ namings.Fine u → TreeGiven (treeFits (length o) (treeAt c v f q)) o o′ x → TreeGiven (treeOf c v k q (length o)) o o′ x
+  tree-fine f {o′} {r} {u} e p g h t = subst (λ (y : Checked SelectTree). TreeGiven y o o′ x) (sym (names-taken c v k q (length o) f u r e p g h)) t
 
 -- ---- TRANSLATE
 

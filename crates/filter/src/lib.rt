@@ -9,7 +9,8 @@ ghost use Rattle.store.specs.Layout as layout;
 ghost use Rattle.store.specs.declared.Verdict.the-variants as stores;
 ghost use Rattle.word.specs.Header.{countAt};
 ghost use Rattle.filter.specs.Jobs.{treeFits, treeOf, Translated, Answered};
-ghost use Rattle.label.specs.Whole.{treeAt, Viewed};
+ghost use Rattle.resolve.specs.Sizes.{sumsOf};
+ghost use Rattle.label.specs.Whole.{selectAt, treeAt, Viewed};
 ghost use Rattle.filter.specs.Steps.{denied, taken, TreeGiven, BothGiven, wordOf, TranslatedWord, AnsweredWord};
 
 // Number, place, and count of records or rows: 0, 0, n if accepted; a refusal's count is 0.
@@ -39,19 +40,21 @@ fn acceptance(count: usize) -> Result
     }
 }
 
-// The tree of a resolved view: 10 if it needs more records than 8,190 or than the buffer holds.
+// The tree of a resolved view, whose parts take so many records: 10 if it needs more records than 8,190 or than the buffer holds.
 fn written(
     cat: &[u8],
     starts: &[u16; 32],
     view: &[u8],
     f: resolve::Files,
+    sums: resolve::Sums,
     q: u16,
     tree: &mut [u8],
 ) -> Result
     requires { ⌜ Viewed (now cat) (now starts) (now view) f ⌝ }
+    requires { ⌜ sums ≡ sumsOf (f .k) (selectAt (now cat) (now view) f) ⌝ }
     ensures { λ r. ⌜ TreeGiven (treeFits (length (now (tree .entry))) (treeAt (now (cat .entry)) (now (view .entry)) f q)) (now (tree .entry)) (now (tree .exit)) r ⌝ }
 {
-    let size = label::measure(cat, starts, view, f, q);
+    let size = label::measure(cat, starts, view, f, q, sums);
     let room = tree.len();
     if (size <= 8190) & (8 + 8 * size <= room) {
         label::write_tree(cat, starts, view, f, q, size as u16, tree);
@@ -74,7 +77,7 @@ fn tree_of(cat: &[u8], tables: usize, view: &[u8], k: u16, q: u16, tree: &mut [u
             let f = resolve::Files { nc, tables, n, k };
             match resolve::whole(cat, &starts, view, f) {
                 resolve::Verdict::Refused(i, p) => refusal(i, p),
-                resolve::Verdict::Fine => written(cat, &starts, view, f, q, tree),
+                resolve::Verdict::Fine(sums) => written(cat, &starts, view, f, sums, q, tree),
             }
         }
     }

@@ -1,29 +1,22 @@
 -- How many records the tree of a view takes, from how many its parts take; sizes stop just above 8,190.
 -- Assumes nothing.
-use Prim.Native.Nat.{ℕ, zero, suc, _+_, _-_, _*_, _<_, _≤_, min}
-use mathlib.Core.Path.{_≡_, refl, sym, ap, ap₂, subst, _∙_}
+use Prim.Native.Nat.{ℕ, zero, suc, _+_, _-_}
+use mathlib.Core.Path.{_≡_, refl, sym, ap, ap₂, _∙_}
 use mathlib.Core.Bool.{Bool, true, false, cond}
-use mathlib.Core.List.{List, [], _∷_, _++_, map}
+use mathlib.Core.List.{List, [], _∷_}
 use native.Mathlib.Omega.{arith}
-use lib.ListN.{length, getD}
+use lib.ListN.{getD}
 use Rattle.class.specs.Class.{dominatesb}
 use Rattle.class.specs.Info.{boundOf}
 use Rattle.class.specs.declared.Info.{Info}
 use Rattle.class.specs.declared.Info.the-variants.{Fixed, Bound}
-use Rattle.catalogue.specs.Tables.{TabRef}
-use Rattle.scope.specs.declared.Scope.{Scope}
-use Rattle.resolve.specs.Expr.{Expr, Select}
 use Rattle.resolve.specs.Sizes.{capped}
-use Rattle.resolve.specs.declared.Files.{Files}
-use Rattle.resolve.specs.declared.Known.{Known}
-use Rattle.tree.specs.Tree.{Tree, SelectTree, CONST, DOM, ROWCLASS, CLASS, size, sizePairs, sizeSelect}
-use Rattle.tree.specs.Trans.{D, C, Class, fixed, tree, asTree, bound, infoOf, byInfo, nums}
-use Rattle.tree.specs.Select.{test, tableTests, conj, root, translated}
-use Rattle.tree.specs.Claims.{dataAt, nextAt}
+use Rattle.tree.specs.Tree.{Tree, DOM, ROWCLASS, CLASS, size}
+use Rattle.tree.specs.Trans.{Class, fixed, asTree, bound, byInfo}
+use Rattle.tree.specs.Select.{test, conj}
 use Rattle.tree.proofs.Infos.{bound-info}
-use Rattle.label.specs.Claims.{classAt, Told}
 use Rattle.label.specs.Rows.{rowItem}
-use Rattle.label.specs.Whole.{Accepts, pairSize, flatSize, testSize}
+use Rattle.label.specs.Whole.{flatSize, testSize}
 use Rattle.label.proofs.FromLeft.{row-info}
 
 -- ---- sums that stop
@@ -39,12 +32,6 @@ cap-two i k m n e g h = e ∙ cap-in m k i g ∙ turned m k ∙ cap-in n m k h �
 
 cap-right : (m a n : ℕ) {r : ℕ} → r ≡ capped (m + a) → a ≡ capped n → r ≡ capped (m + n)
 cap-right m a n e g = e ∙ turned m a ∙ cap-in n m a g ∙ turned n m
-
-cap-four : (n a b s x y p r : ℕ) → x ≡ capped a → y ≡ capped b → p ≡ capped (x + y) → r ≡ capped (n + p) → capped (r + s) ≡ capped (n + (a + (b + s)))
-cap-four n a b s x y p r e g h k =
-    let z = cap-right n p (a + b) k (cap-two x y a b h e g) in
-    let w : n + (a + b) + s ≡ n + (a + (b + s)) = omega arith in
-    cap-in (n + (a + b)) s r z ∙ ap capped w
 
 -- the six parts of a tree
 pub cap-all : (t a b x d i j k A B X D : ℕ) {r : ℕ} → a ≡ capped A → b ≡ capped B → x ≡ capped X → d ≡ capped D
@@ -126,47 +113,6 @@ pub tests-counted : (q : ℕ) (ks : List ℕ) (is : List Info) (j i : ℕ) (k : 
 tests-counted q ks is j i k x b a c d e r n p g h u w y s z =
     let m : a ≡ capped (flatSize (test q (fixed (getD ks j 0)))) = fixed-counted q k u ∙ ap (λ (o : ℕ). capped (flatSize (test q (fixed o)))) p in
     cap-two a e _ _ z m (cap-two c d _ _ s (row-counted q is j g h w) y) ∙ ap capped (sym (tests-suc q ks is j i n))
-
--- ---- values in a row
-
-pub record Counting (c ss v : List ℕ) (f : Files) (t : List Scope) (count at i m n : ℕ) : Type 0 where
-  pub there : Accepts c ss v f t i m
-  pub small : n ≤ 8191
-  pub sum : capped (n + pairSize c v f t i m) ≡ capped (pairSize c v f t count at)
-
-pair-suc : (c v : List ℕ) (f : Files) (t : List Scope) (i m : ℕ) → 0 < i → pairSize c v f t i m
-    ≡ size (dataAt c v f t 1 15 m) + (size (asTree (classAt c v f t 1 15 m)) + pairSize c v f t (i - 1) (nextAt v f 15 m))
-unfolding pairSize
-pair-suc c v f t zero m l = absurd (omega arith)
-pair-suc c v f t (suc i) m l = let z : suc i - 1 ≡ i = omega arith in rw z
-
-pair-zero : (c v : List ℕ) (f : Files) (t : List Scope) (i m : ℕ) → i ≤ 0 → pairSize c v f t i m ≡ 0
-unfolding pairSize
-pair-zero c v f t zero m l = refl
-pair-zero c v f t (suc i) m l = absurd (omega arith)
-
-module _ {c ss v : List ℕ} {f : Files} {t : List Scope} {count at i m n : ℕ} (w : Counting c ss v f t count at i m n) where
-  pub counted-all : i ≤ 0 → n ≡ capped (pairSize c v f t count at)
-  counted-all l = omega (arith, pair-zero c v f t i m l, w .sum, w .small)
-
-  pub counted-more : {x : Known} (p r : ℕ) → 0 < i → Told c v f t 1 15 m x → Accepts c ss v f t (i - 1) (x .next) → p ≡ capped (x .values + x .classes) → r ≡ capped (n + p)
-      → Counting c ss v f t count at (i - 1) (x .next) r
-  counted-more {x} p r l k a e g =
-      let s = pair-suc c v f t i m l in
-      let z : pairSize c v f t (i - 1) (nextAt v f 15 m) ≡ pairSize c v f t (i - 1) (x .next) = ap (pairSize c v f t (i - 1)) (sym (k .next-is)) in
-      record {
-        there = a;
-        small = omega (arith, g);
-        sum = cap-four n _ _ (pairSize c v f t (i - 1) (x .next)) (x .values) (x .classes) p r (k .values-is) (k .classes-is) e g
-            ∙ ap (λ (o : ℕ). capped (n + (size (dataAt c v f t 1 15 m) + (size (asTree (classAt c v f t 1 15 m)) + o)))) (sym z)
-            ∙ ap (λ (o : ℕ). capped (n + o)) (sym s)
-            ∙ w .sum;
-      }
-
-pub counted-none : (c ss v : List ℕ) (f : Files) (t : List Scope) (count at : ℕ) → Accepts c ss v f t count at → Counting c ss v f t count at count at 0
-counted-none c ss v f t count at a =
-    let z : 0 + pairSize c v f t count at ≡ pairSize c v f t count at = omega arith in
-    record { there = a; small = omega arith; sum = ap capped z }
 
 -- ---- the whole
 

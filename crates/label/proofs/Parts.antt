@@ -12,6 +12,8 @@ use Rattle.cell.specs.Types.{sameType, digitsOf, scaleOf}
 use Rattle.cell.specs.declared.Type.{«Type» as Ty}
 use Rattle.cell.specs.declared.Value.{Value}
 use Rattle.catalogue.specs.Tables.{TabRef}
+use Rattle.view.specs.declared.Fold.{Fold}
+use Rattle.view.specs.declared.Pick.{Pick}
 use Rattle.scope.specs.Scopes.{Hit, column, bound, Only, one, find}
 use Rattle.scope.specs.Table.{scopesOf, infosOf, foundOf}
 use Rattle.scope.specs.declared.Scope.{Scope}
@@ -99,20 +101,20 @@ module _ (c v : List ℕ) (f : Files) where
         ∙ ap₂ (λ (x : Tree) (y : Class). letClass x (classAt c v f t deep (d - 1) (at + 1)) y) (data-is t deep (d - 1) (at + 1)) (class-is u (deep + 1) (d - 1) m)
 
     -- a block's parts stand in its scope
-    pub exists-class : (u : List Scope) (m : ℕ) (ts : List TabRef) → exprAt c v f t deep d at ≡ expr.Expr.exists ts (exprAt c v f u (deep + 1) (d - 1) m)
+    pub exists-class : (u : List Scope) (m : ℕ) (h : Fold) (ts : List TabRef) → exprAt c v f t deep d at ≡ expr.Expr.exists h ts (exprAt c v f u (deep + 1) (d - 1) m)
         → infosOf u (deep + 1) ≡ Fixed 0 ∷ infosOf t deep
         → classAt c v f t deep d at ≡ blockClass ts (classAt c v f u (deep + 1) (d - 1) m ∷ [])
     unfolding C
-    exists-class u m ts e i =
+    exists-class u m h ts e i =
         class-of t deep d at _ e
         ∙ ap (λ (z : List Info). blockClass ts (C (f .k) z (exprAt c v f u (deep + 1) (d - 1) m) ∷ [])) (sym i)
         ∙ ap (λ (z : Class). blockClass ts (z ∷ [])) (class-is u (deep + 1) (d - 1) m)
 
-    pub single-class : (u : List Scope) (m l : ℕ) (ts : List TabRef) → exprAt c v f t deep d at ≡ expr.Expr.single ts (exprAt c v f u (deep + 1) (d - 1) m) (exprAt c v f u (deep + 1) (d - 1) l)
+    pub single-class : (u : List Scope) (m l : ℕ) (h : Pick) (ts : List TabRef) → exprAt c v f t deep d at ≡ expr.Expr.single h ts (exprAt c v f u (deep + 1) (d - 1) m) (exprAt c v f u (deep + 1) (d - 1) l)
         → infosOf u (deep + 1) ≡ Fixed 0 ∷ infosOf t deep
         → classAt c v f t deep d at ≡ blockClass ts (classAt c v f u (deep + 1) (d - 1) m ∷ choice (dataAt c v f u (deep + 1) (d - 1) m) (classAt c v f u (deep + 1) (d - 1) l) (fixed 0) ∷ [])
     unfolding C
-    single-class u m l ts e i =
+    single-class u m l h ts e i =
         class-of t deep d at _ e
         ∙ ap (λ (z : List Info). blockClass ts (C (f .k) z (exprAt c v f u (deep + 1) (d - 1) m) ∷ choice (D (exprAt c v f u (deep + 1) (d - 1) m)) (C (f .k) z (exprAt c v f u (deep + 1) (d - 1) l)) (fixed 0) ∷ [])) (sym i)
         ∙ ap₂ (λ (y z : Class). blockClass ts (y ∷ choice (D (exprAt c v f u (deep + 1) (d - 1) m)) z (fixed 0) ∷ [])) (class-is u (deep + 1) (d - 1) m) (class-is u (deep + 1) (d - 1) l)

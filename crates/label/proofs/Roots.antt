@@ -2,7 +2,7 @@
 -- Assumes nothing.
 use Prim.Native.Nat.{ℕ, zero, suc, _+_, _-_, _*_, _<_, _≤_}
 use mathlib.Core.Path.{_≡_, refl, sym, ap, ap₂, subst, _∙_}
-use mathlib.Core.Bool.{Bool, true, false}
+use mathlib.Core.Bool.{true, cond}
 use mathlib.Core.List.{List, [], _∷_, _++_, map, append-assoc}
 use native.Mathlib.Omega.{arith}
 use lib.ListN.{length, getD, replicate}
@@ -10,6 +10,8 @@ use Rattle.word.specs.Header.{drt, header, countAt}
 use Rattle.word.specs.Buffer.{Room}
 use Rattle.word.proofs.Laws.{length-header}
 use Rattle.word.specs.Record.{recBytes}
+use Rattle.class.specs.Class.{dominatesb}
+use Rattle.class.specs.Info.{boundOf}
 use Rattle.class.specs.declared.Info.{Info}
 use Rattle.class.specs.declared.Info.the-variants.{Fixed}
 use Rattle.cell.specs.declared.Type.{«Type» as Ty}
@@ -23,9 +25,10 @@ use Rattle.view.specs.declared.Node.the-variants.{Select as Sel}
 use Rattle.view.proofs.Read.{InBlock, was-read, here-ok, more-ok, none-ok}
 use Rattle.view.proofs.Whole.{Taken, taken, taken-count}
 use Rattle.scope.specs.Scopes.{Open}
+use Rattle.scope.specs.Words.{typeIn}
 use Rattle.scope.specs.Table.{openOf, scopesOf, infosOf, blank}
 use Rattle.scope.specs.Blocks.{Tabs, all, tablesNamed, refsOf, opened}
-use Rattle.scope.specs.Entry.{openedBy, openedAs, blockScope, tablesIn, rowsOf, classesOf}
+use Rattle.scope.specs.Entry.{openedBy, openedAs, tablesIn, rowsOf, classesOf}
 use Rattle.scope.specs.declared.Scope.{Scope}
 use Rattle.scope.specs.declared.Opened.{Opened}
 use Rattle.scope.proofs.Named.{BlockOpened, block-opened, names-length}
@@ -33,33 +36,36 @@ use Rattle.resolve.specs.Expr.{Expr, Select}
 use Rattle.resolve.specs.Resolve.{good, resolve, Outs, goods, resolveAll, Resolved, select, refused as denied, resolveView}
 use Rattle.resolve.specs.Claims.{Lent, Ready, resolvedBy, verdictOf}
 use Rattle.resolve.specs.declared.Files.{Files}
+use Rattle.resolve.specs.declared.Sums.{Sums}
 use Rattle.resolve.specs.declared.Verdict.{Verdict}
 use Rattle.resolve.specs.declared.Verdict.the-variants as verdict
 use Rattle.resolve.proofs.Inversion.{ViewGood, view-good, all-good}
 use Rattle.tree.specs.Tree.{Tree, SelectTree, size, sizePairs, sizeSelect, tableRecs, encode, encodePairs, encodeSelect, treeFile}
-use Rattle.tree.specs.Trans.{D, C, Class, asTree, nums}
+use Rattle.tree.specs.Trans.{D, C, Class, asTree, bound, nums}
 use Rattle.tree.specs.Select.{test, tableTests, conj, root, translated}
 use Rattle.tree.specs.Claims.{exprAt, dataAt, nextAt, refsAt, Tabled, Narrow, Accepted}
+use Rattle.tree.proofs.Infos.{info-of-class, bound-info}
 use Rattle.tree.proofs.Narrow.{narrow-null}
+use Rattle.tree.proofs.Sizes.{size-data, size-class}
 use Rattle.tree.proofs.Accepted.{Is, accept}
 use Rattle.label.specs.Claims.{classAt}
 use Rattle.label.specs.Rows.{rowsIn, Rowed}
-use Rattle.label.specs.Whole.{selectIn, selectAt, treeAt, Viewed, Accepts, pairBytes, flat, testBytes, classesIn, pairSize, flatSize, testSize}
+use Rattle.label.specs.Whole.{selectIn, selectAt, treeAt, Viewed, Accepts, pairBytes, flat, testBytes, classesIn, flatSize, testSize}
 use Rattle.label.proofs.Parts.{class-of}
-use Rattle.resolve.specs.Sizes.{capped}
-use Rattle.label.proofs.Counts.{flat-records, cap-all}
+use Rattle.resolve.specs.Sizes.{capped, pairsSize, sumsOf}
+use Rattle.label.proofs.Counts.{flat-records, cap-all, test-counted}
 use Rattle.label.proofs.Whole.{flat-append, flat-both, conj-bytes, tests-are, tests-sized}
 
 -- the answer of an accepted view
-is-select : (R : Resolved) → verdictOf R ≡ verdict.Fine → (ts : List Ty) × (R ≡ select (selectIn R) ts)
+is-select : (k : ℕ) (u : Sums) (R : Resolved) → verdictOf k R ≡ verdict.Fine u → (ts : List Ty) × (R ≡ select (selectIn R) ts)
 unfolding verdictOf selectIn
-is-select (select s ts) e = (ts, refl)
-is-select (denied i p) e = absurd (let z : _≡_ {A = ℕ} 0 1 = cc in omega arith)
+is-select k u (select s ts) e = (ts, refl)
+is-select k u (denied i p) e = absurd (let z : _≡_ {A = ℕ} 0 1 = cc in omega arith)
 
 -- the entry of tables that are there
-found-fine : (ss : List ℕ) (tabs : Tabs) (ts : List TabRef) (o : Opened) → o ≡ openedBy ss tabs → tabs ≡ all ts → (o .fine ≡ true) × (o .scope .ty ≡ T.Null)
-unfolding openedBy openedAs blockScope
-found-fine ss tabs ts o e h = (rw (e, h), rw (e, h))
+found-fine : (ss : List ℕ) (tabs : Tabs) (ts : List TabRef) (o : Opened) → o ≡ openedBy ss tabs → tabs ≡ all ts → o .fine ≡ true
+unfolding openedBy openedAs
+found-fine ss tabs ts o e h = rw (e, h)
 
 refs-of : (tabs : Tabs) (ts : List TabRef) → tabs ≡ all ts → refsOf tabs ≡ ts
 unfolding refsOf
@@ -97,6 +103,28 @@ select-size : (k q : ℕ) (s : Select) → sizeSelect (translated k q s)
 unfolding sizeSelect translated
 select-size k q s =
     omega (arith, nums-number (s .from), flat-records (tableTests q 0 (s .from) ++ test q (C k root (s .test))) (D (s .test)), flat-both (tableTests q 0 (s .from)) (test q (C k root (s .test))))
+
+-- what a view's sums say of its tree
+pairs-size : (k : ℕ) (xs : List Expr) → sizePairs (pairsOf k xs) ≡ pairsSize k root xs
+unfolding sizePairs pairsSize
+pairs-size k [] = refl
+pairs-size k (x ∷ xs) = omega (arith, size-data x, size-class k root x, pairs-size k xs)
+
+record Summed (k : ℕ) (s : Select) (u : Sums) : Type 0 where
+  upper : boundOf (u .info) ≡ bound (C k root (s .test))
+  values-are : u .values ≡ capped (size (D (s .test)))
+  classes-are : u .classes ≡ capped (size (asTree (C k root (s .test))))
+  pairs-are : u .pairs ≡ capped (sizePairs (pairsOf k (s .values)))
+
+sums-counted : (k : ℕ) (s : Select) (u : Sums) → u ≡ sumsOf k s → Summed k s u
+unfolding sumsOf
+sums-counted k s u e =
+    record {
+      upper = ap (λ (x : Sums). boundOf (x .info)) e ∙ ap boundOf (sym (info-of-class k root (s .test))) ∙ bound-info (C k root (s .test));
+      values-are = ap (λ (x : Sums). x .values) e ∙ ap capped (sym (size-data (s .test)));
+      classes-are = ap (λ (x : Sums). x .classes) e ∙ ap capped (sym (size-class k root (s .test)));
+      pairs-are = ap (λ (x : Sums). x .pairs) e ∙ ap capped (sym (pairs-size k (s .values)));
+    }
 
 -- SELECT's records, in order
 select-bytes : (k q : ℕ) (s : Select)
@@ -170,7 +198,7 @@ module _ (c ss v : List ℕ) (f : Files) (w : Viewed c ss v f) (tables values : 
 
   is-selected : (ts : List Ty) × (resolvedBy cat (parseView v) ≡ select (selectAt c v f) ts)
   unfolding selectAt
-  is-selected = is-select (resolvedBy cat (parseView v)) (w .fine)
+  is-selected = is-select (f .k) (w .sums) (resolvedBy cat (parseView v)) (w .fine)
 
   view-is : ViewGood cat (view .block) (selectAt c v f) (is-selected .0)
   view-is = view-good cat (view .block) (selectAt c v f) (is-selected .0) (sym (by-block (parseView v) (view .block) _ (view .whole)) ∙ is-selected .1)
@@ -199,11 +227,11 @@ module _ (c ss v : List ℕ) (f : Files) (w : Viewed c ss v f) (tables values : 
       }
 
   module _ (o : Opened) (p : o ≡ openedBy ss (tablesNamed (tablesFrom c (f .nc) (f .nc) 0) (namesAt v 1 tables))) where
-    fine : (o .fine ≡ true) × (o .scope .ty ≡ T.Null)
+    fine : o .fine ≡ true
     fine = found-fine ss _ (selectAt c v f .from) o p from-is
 
     pub entry : BlockOpened c (f .nc) (tablesNamed (tablesFrom c (f .nc) (f .nc) 0) (namesAt v 1 tables)) (o .scope)
-    entry = block-opened c (f .nc) (f .tables) ss v 1 tables o (w .given .starts) (some-tables, few-tables) p (fine .0)
+    entry = block-opened c (f .nc) (f .tables) ss v 1 tables o (w .given .starts) (some-tables, few-tables) p fine
 
     scopes-are : scopesOf c (f .nc) (replicate 16 (o .scope)) 1 ≡ opened (selectAt c v f .from) ∷ []
     unfolding scopesOf
@@ -213,8 +241,8 @@ module _ (c ss v : List ℕ) (f : Files) (w : Viewed c ss v f) (tables values : 
     unfolding infosOf
     infos-are = ap (λ (i : Info). i ∷ []) (entry .known)
 
-    narrow : (j : ℕ) → j < 1 → Narrow (getD (replicate 16 (o .scope)) j blank .ty)
-    narrow zero l = subst Narrow (sym (fine .1)) narrow-null
+    narrow : (j : ℕ) → j < 1 → Narrow (typeIn (getD (replicate 16 (o .scope)) j blank))
+    narrow zero l = subst Narrow (sym (entry .untyped)) narrow-null
     narrow (suc j) l = absurd (omega arith)
 
     value-at : (m : ℕ) (e : Exp) (k : ℕ) (x : Expr) (ty : Ty) → parseValue v (f .n) 15 m ≡ ok e k → resolve cat (opened (selectAt c v f .from) ∷ []) e ≡ good x ty
@@ -245,22 +273,20 @@ module _ (c ss v : List ℕ) (f : Files) (w : Viewed c ss v f) (tables values : 
     record Row (count m : ℕ) (xs : List Expr) : Type 0 where
       all-there : Accepts c ss v f (replicate 16 (o .scope)) count m
       bytes : pairBytes c v f (replicate 16 (o .scope)) count m ≡ encodePairs (pairsOf (f .k) xs)
-      sizes : pairSize c v f (replicate 16 (o .scope)) count m ≡ sizePairs (pairsOf (f .k) xs)
       number : length xs ≡ count
 
     no-row : (m : ℕ) → Row 0 m []
-    unfolding Accepts pairBytes encodePairs pairSize sizePairs
-    no-row m = record { all-there = tt; bytes = refl; sizes = refl; number = refl }
+    unfolding Accepts pairBytes encodePairs
+    no-row m = record { all-there = tt; bytes = refl; number = refl }
 
     one-row : (i m : ℕ) (x : Expr) (xs : List Expr) (ty : Ty) → Is c ss v f (replicate 16 (o .scope)) 1 15 m x ty → Row i (nextAt v f 15 m) xs → Row (suc i) m (x ∷ xs)
-    unfolding Accepts pairBytes encodePairs pairSize sizePairs
+    unfolding Accepts pairBytes encodePairs
     one-row i m x xs ty h r =
         record {
           all-there = (h .accepted, r .all-there);
           bytes = ap₂ (λ (a b : List ℕ). a ++ (b ++ pairBytes c v f (replicate 16 (o .scope)) i (nextAt v f 15 m)))
               (ap encode (data-root m x (h .expr-as))) (ap (λ (z : Class). encode (asTree z)) (class-root m x (h .expr-as)))
               ∙ ap (λ (l : List ℕ). encode (D x) ++ (encode (asTree (C (f .k) root x)) ++ l)) (r .bytes);
-          sizes = (let x1 = ap size (data-root m x (h .expr-as)) in let x2 = ap (λ (z : Class). size (asTree z)) (class-root m x (h .expr-as)) in omega (arith, x1, x2, r .sizes));
           number = ap suc (r .number);
         }
 
@@ -334,26 +360,16 @@ module _ (c ss v : List ℕ) (f : Files) (w : Viewed c ss v f) (tables values : 
 
     tree-size : (q : ℕ) → sizeSelect (treeAt c v f q)
         ≡ 1 + (tables + (testSize q (classesIn c (f .nc) (o .scope)) (rowsIn c (f .nc) (o .scope)) 0 tables
-        + (flatSize (test q (classAt c v f (replicate 16 (o .scope)) 1 15 (1 + tables)))
-        + (size (dataAt c v f (replicate 16 (o .scope)) 1 15 (1 + tables)) + pairSize c v f (replicate 16 (o .scope)) values (nextAt v f 15 (1 + tables))))))
+        + (flatSize (test q (C (f .k) root (selectAt c v f .test))) + (size (D (selectAt c v f .test)) + sizePairs (pairsOf (f .k) (selectAt c v f .values))))))
     unfolding treeAt
-    tree-size q =
-        let y = select-size (f .k) q (selectAt c v f) in
-        let a = ap (λ (z : Class). flatSize (test q z)) (class-root (1 + tables) _ (test-is .expr-as)) in
-        let b = ap size (data-root (1 + tables) _ (test-is .expr-as)) in
-        let d = values-row .sizes in
-        let e = root-sizes q in
-        let n = from-number in
-        omega (arith, y, a, b, d, e, n)
+    tree-size q = omega (arith, select-size (f .k) q (selectAt c v f), root-sizes q, from-number)
 
     -- HOW MANY RECORDS, as they are counted
-    pub size-counted : (q : ℕ) {m : ℕ} (a b d x i j k r : ℕ) → m ≡ nextAt v f 15 (1 + tables)
+    pub size-counted : (q a b z i j k r : ℕ) (u : Sums) → u ≡ sumsOf (f .k) (selectAt c v f)
         → a ≡ capped (testSize q (classesIn c (f .nc) (o .scope)) (rowsIn c (f .nc) (o .scope)) 0 tables)
-        → b ≡ capped (flatSize (test q (classAt c v f (replicate 16 (o .scope)) 1 15 (1 + tables))))
-        → x ≡ capped (size (dataAt c v f (replicate 16 (o .scope)) 1 15 (1 + tables)))
-        → d ≡ capped (pairSize c v f (replicate 16 (o .scope)) values m)
-        → i ≡ capped (1 + tables + a) → j ≡ capped (b + x) → k ≡ capped (j + d) → r ≡ capped (i + k) → r ≡ capped (sizeSelect (treeAt c v f q))
-    size-counted q {m} a b d x i j k r e g h y z u1 u2 u3 u4 =
-        let l = tree-size q in
-        let n : pairSize c v f (replicate 16 (o .scope)) values m ≡ pairSize c v f (replicate 16 (o .scope)) values (nextAt v f 15 (1 + tables)) = ap (pairSize c v f (replicate 16 (o .scope)) values) e in
-        cap-all tables a b x d i j k _ _ _ _ g h y (z ∙ ap capped n) u1 u2 u3 u4 ∙ ap capped (sym l)
+        → z ≡ boundOf (u .info) → b ≡ cond (dominatesb q z) 0 (capped (3 + u .classes))
+        → i ≡ capped (1 + tables + a) → j ≡ capped (b + u .values) → k ≡ capped (j + u .pairs) → r ≡ capped (i + k) → r ≡ capped (sizeSelect (treeAt c v f q))
+    size-counted q a b z i j k r u e g y h u1 u2 u3 u4 =
+        let w = sums-counted (f .k) (selectAt c v f) u e in
+        cap-all tables a b (u .values) (u .pairs) i j k _ _ _ _ g (test-counted q _ (y ∙ w .upper) (w .classes-are) h) (w .values-are) (w .pairs-are) u1 u2 u3 u4
+        ∙ ap capped (sym (tree-size q))

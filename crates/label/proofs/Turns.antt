@@ -16,6 +16,8 @@ use Rattle.cell.specs.declared.Value.{Value}
 use Rattle.catalogue.specs.Tables.{Table, TabRef, tablesFrom}
 use Rattle.view.specs.Record.{nodeAt}
 use Rattle.view.specs.Parse.{namesAt}
+use Rattle.view.specs.declared.Fold.{Fold}
+use Rattle.view.specs.declared.Pick.{Pick}
 use Rattle.view.specs.declared.Node.{Node}
 use Rattle.view.specs.declared.Node.the-variants.{Const, Binop, Not, If, Let, Col, Classof}
 use Rattle.scope.specs.Scopes.{find}
@@ -27,6 +29,8 @@ use Rattle.scope.specs.declared.Found.{Found}
 use Rattle.scope.specs.declared.Opened.{Opened}
 use Rattle.resolve.specs.Infos.{tableClass}
 use Rattle.resolve.specs.Claims.{blockNode}
+use Rattle.resolve.specs.declared.Asked.{Asked}
+use Rattle.resolve.specs.declared.Asked.the-variants as ask
 use Rattle.resolve.specs.declared.Files.{Files}
 use Rattle.resolve.specs.declared.Known.{Known}
 use Rattle.tree.specs.Tree.{Tree, encode, tableRecs}
@@ -36,7 +40,7 @@ use Rattle.tree.proofs.Infos.{join-info, choice-info, let-info}
 use Rattle.tree.proofs.Accepted.{LetIs, BlockIs, const-is, col-is, classof-is, not-is, binop-is, if-is, let-is, block-is, exists-is, single-is}
 use Rattle.label.specs.Claims.{classAt, IsTree, IsBinop, Told}
 use Rattle.label.specs.Found.{cellTree, rowTree}
-use Rattle.label.specs.Rows.{rowsTo, rowsIn, allRows, Rowed, HasValue, atWhere, atKept, atRow}
+use Rattle.label.specs.Rows.{rowsTo, rowsIn, allRows, Rowed, hasValue, HasValue, atWhere, atKept, atRow}
 use Rattle.label.proofs.Joins.{class-bytes, fixed-bytes, join-turned, join-open, choice-open, let-fixed, let-open, block-bytes}
 use Rattle.label.proofs.FromLeft.{rows-where, rows-value}
 use Rattle.label.proofs.Parts.{info-is, const-class, not-class, binop-class, if-class, let-class, exists-class, single-class, col-bytes, classof-bytes}
@@ -119,6 +123,16 @@ not-false false e = refl
 not-true : (b : Bool) → not b ≡ false → b ≡ true
 not-true true e = refl
 not-true false e = sym e
+
+-- whether a block has a value
+module _ {a : Asked} where
+  pub rows-none : {f : Fold} → a ≡ ask.Rows f → false ≡ hasValue a
+  unfolding hasValue
+  rows-none e = rw e
+
+  pub values-one : {g : Pick} → a ≡ ask.Values g → true ≡ hasValue a
+  unfolding hasValue
+  values-one e = rw e
 
 -- what is read at a row
 module _ (c v : List ℕ) (f : Files) (t : List Scope) (deep d at : ℕ) (s : Scope) where
@@ -278,11 +292,11 @@ module _ {c ss v : List ℕ} {f : Files} {t : List Scope} {deep d at : ℕ} (w :
           ≡ recBytes 24 0 0 0 0 ++ (encode (asTree (classAt c v f t deep (d - 1) (at + 1))) ++ (encode (dataAt c v f t deep (d - 1) (at + 1)) ++ encode (asTree (classAt c v f u (deep + 1) (d - 1) (x .next)))))
       bindc-bytes {a} b i = ap (λ (z : Class). encode (asTree z)) let-join ∙ let-open _ _ _ a (b .upper) (sym (k .info-is) ∙ i) (body-open b)
 
-  -- EXISTS and VALUE
-  module _ (single : Bool) (count : ℕ) (g : nodeAt v at ≡ blockNode single count) {o : Opened}
+  -- A BLOCK, by what is asked of it
+  module _ (asked : Asked) (count : ℕ) (g : nodeAt v at ≡ blockNode asked count) {o : Opened}
       (p : o ≡ openedBy ss (tablesNamed (tablesFrom c (f .nc) (f .nc) 0) (namesAt v (at + 1) count))) {u : List Scope} (q : u ≡ set t deep (o .scope)) where
     pub opened-there : BlockIs c ss v f t u deep d at count (o .scope)
-    opened-there = block-is c ss v f t deep d at w single count g o p u q
+    opened-there = block-is c ss v f t deep d at w asked count g o p u q
 
     abbrev refs : List TabRef
     refs = refsAt c (f .nc) v (at + 1) count
@@ -321,8 +335,12 @@ module _ {c ss v : List ℕ} {f : Files} {t : List Scope} {deep d at : ℕ} (w :
           counted = n ∙ sym (ap length rows-are ∙ rows-number (refsAt c (f .nc) v (at + 1) count));
         }
 
-    pub value-of : HasValue single c ss v f u (deep + 1) (d - 1) (at + 1 + count)
-    value-of = record { value = λ e. single-is c ss v f t deep d at w single count g o p u q _ e refl .value }
+    value-by : (s : Asked) → asked ≡ s → hasValue asked ≡ true → Accepted c ss v f u (deep + 1) (d - 1) (nextAt v f (d - 1) (at + 1 + count))
+    value-by (ask.Rows h) e i = absurd (let y : false ≡ true = rows-none e ∙ i in let z : _≡_ {A = ℕ} 0 1 = cc in omega arith)
+    value-by (ask.Values h) e i = single-is c ss v f t deep d at w asked count g o p u q h _ e refl .value
+
+    pub value-of : {b : Bool} → b ≡ hasValue asked → HasValue b c ss v f u (deep + 1) (d - 1) (at + 1 + count)
+    value-of e = record { value = λ i. value-by asked refl (sym e ∙ i) }
 
     inside : joinAll (rowClasses 0 refs ++ (classAt c v f u (deep + 1) (d - 1) (at + 1 + count) ∷ [])) ≡ atWhere c v f u (deep + 1) (d - 1) (at + 1 + count) (o .scope)
     unfolding atWhere
@@ -333,37 +351,38 @@ module _ {c ss v : List ℕ} {f : Files} {t : List Scope} {deep d at : ℕ} (w :
     unfolding atRow atWhere atKept
     inside-value = rows-value (rowsIn c (f .nc) (o .scope)) refs rows-are (o .scope .count) refs-count (rowed .some) _ _
 
-    exists-block : single ≡ false → classAt c v f t deep d at ≡ blockClass refs (classAt c v f u (deep + 1) (d - 1) (at + 1 + count) ∷ [])
-    exists-block e = exists-class c v f t deep d at u (at + 1 + count) refs (exists-is c ss v f t deep d at w single count g o p u q e .is) (opened-there .infos)
+    exists-block : (h : Fold) → asked ≡ ask.Rows h → classAt c v f t deep d at ≡ blockClass refs (classAt c v f u (deep + 1) (d - 1) (at + 1 + count) ∷ [])
+    exists-block h e = exists-class c v f t deep d at u (at + 1 + count) h refs (exists-is c ss v f t deep d at w asked count g o p u q h e .is) (opened-there .infos)
 
-    single-block : single ≡ true → classAt c v f t deep d at
+    single-block : (h : Pick) → asked ≡ ask.Values h → classAt c v f t deep d at
         ≡ blockClass refs (classAt c v f u (deep + 1) (d - 1) (at + 1 + count) ∷ choice (dataAt c v f u (deep + 1) (d - 1) (at + 1 + count)) (classAt c v f u (deep + 1) (d - 1) (nextAt v f (d - 1) (at + 1 + count))) (fixed 0) ∷ [])
-    single-block e = single-class c v f t deep d at u (at + 1 + count) _ refs (single-is c ss v f t deep d at w single count g o p u q _ e refl .is) (opened-there .infos)
+    single-block h e = single-class c v f t deep d at u (at + 1 + count) _ h refs (single-is c ss v f t deep d at w asked count g o p u q h _ e refl .is) (opened-there .infos)
 
     -- the block's class, by what is read at a row
     record AsBlock : Type 0 where
       us : List Class
       whole : classAt c v f t deep d at ≡ blockClass refs us
-      row : joinAll (rowClasses 0 refs ++ us) ≡ atRow single c v f u (deep + 1) (d - 1) (at + 1 + count) (o .scope)
+      row : joinAll (rowClasses 0 refs ++ us) ≡ atRow (hasValue asked) c v f u (deep + 1) (d - 1) (at + 1 + count) (o .scope)
 
-    as-block : (b : Bool) → single ≡ b → AsBlock
+    as-block : (s : Asked) → asked ≡ s → AsBlock
     unfolding atRow
-    as-block false e = record { us = _; whole = exists-block e; row = inside ∙ ap (λ (z : Bool). atRow z c v f u (deep + 1) (d - 1) (at + 1 + count) (o .scope)) (sym e) }
-    as-block true e =
+    as-block (ask.Rows h) e = record { us = _; whole = exists-block h e; row = inside ∙ ap (λ (z : Bool). atRow z c v f u (deep + 1) (d - 1) (at + 1 + count) (o .scope)) (rows-none e) }
+    as-block (ask.Values h) e =
         record {
           us = _;
-          whole = single-block e;
-          row = inside-value ∙ ap (λ (z : Bool). atRow z c v f u (deep + 1) (d - 1) (at + 1 + count) (o .scope)) (sym e);
+          whole = single-block h e;
+          row = inside-value ∙ ap (λ (z : Bool). atRow z c v f u (deep + 1) (d - 1) (at + 1 + count) (o .scope)) (values-one e);
         }
 
-    pub aggregate-bytes : {k : ℕ} → k ≡ lubAll (classesOf (tablesIn (openOf c (f .nc) (o .scope)))) → encode (asTree (classAt c v f t deep d at))
+    pub aggregate-bytes : {s : Bool} {k : ℕ} → s ≡ hasValue asked → k ≡ lubAll (classesOf (tablesIn (openOf c (f .nc) (o .scope)))) → encode (asTree (classAt c v f t deep d at))
         ≡ recBytes 25 0 0 0 0 ++ (recBytes 27 0 count 0 0 ++ (tableRecs (nums (refsAt c (f .nc) v (at + 1) count))
-        ++ (encode (asTree (atRow single c v f u (deep + 1) (d - 1) (at + 1 + count) (o .scope))) ++ recBytes 6 0 k 0 0)))
-    aggregate-bytes {k} e =
-        let b = as-block single refl in
+        ++ (encode (asTree (atRow s c v f u (deep + 1) (d - 1) (at + 1 + count) (o .scope))) ++ recBytes 6 0 k 0 0)))
+    aggregate-bytes {s} {k} h e =
+        let b = as-block asked refl in
         let n : length (nums refs) ≡ count = nums-number refs ∙ opened-there .counted in
         let m : tableClass refs ≡ k = sym (e ∙ ap lubAll (ap classesOf own-tables ∙ map-classes refs)) in
         ap (λ (z : Class). encode (asTree z)) (b .whole)
         ∙ block-bytes refs (b .us)
         ∙ ap₂ (λ (x y : ℕ). recBytes 25 0 0 0 0 ++ (recBytes 27 0 x 0 0 ++ (tableRecs (nums refs) ++ (encode (asTree (joinAll (rowClasses 0 refs ++ b .us))) ++ recBytes 6 0 y 0 0)))) n m
-        ∙ ap (λ (z : Class). recBytes 25 0 0 0 0 ++ (recBytes 27 0 count 0 0 ++ (tableRecs (nums refs) ++ (encode (asTree z) ++ recBytes 6 0 k 0 0)))) (b .row)
+        ∙ ap (λ (z : Class). recBytes 25 0 0 0 0 ++ (recBytes 27 0 count 0 0 ++ (tableRecs (nums refs) ++ (encode (asTree z) ++ recBytes 6 0 k 0 0))))
+        (b .row ∙ ap (λ (z : Bool). atRow z c v f u (deep + 1) (d - 1) (at + 1 + count) (o .scope)) (sym h))

@@ -12,6 +12,8 @@ use Rattle.scope.specs.declared.Scope.{Scope}
 use Rattle.tree.specs.Tree.{ROWCLASS}
 use Rattle.tree.specs.Trans.{Class, fixed, byInfo, join, choice}
 use Rattle.tree.specs.Claims.{dataAt, nextAt, Accepted}
+use Rattle.resolve.specs.declared.Asked.{Asked}
+use Rattle.resolve.specs.declared.Asked.the-variants as ask
 use Rattle.resolve.specs.declared.Files.{Files}
 use Rattle.label.specs.Claims.{classAt}
 use mathlib.Core.Bool.{Bool, true, false}
@@ -41,7 +43,12 @@ pub record Rowed (c : List ℕ) (n : ℕ) (s : Scope) : Type 0 where
   pub few : s .count ≤ 4
   pub counted : s .count ≡ length (rowsIn c n s)
 
--- what is read at one row: the row classes and the where's, which stands at record `at`; for VALUE also the choice, under the where, of the value's class and 0
+-- EXISTS and COUNT have no value; VALUE, MAX and MIN have one
+unfoldable pub hasValue : Asked → Bool
+hasValue (ask.Rows f) = false
+hasValue (ask.Values g) = true
+
+-- what is read at one row: the row classes and the where's, which stands at record `at`; where the block has a value also the choice, under the where, of the value's class and 0
 unfoldable pub atWhere : List ℕ → List ℕ → Files → List Scope → ℕ → ℕ → ℕ → Scope → Class
 atWhere c v f t deep d at s = join (allRows c (f .nc) s) (classAt c v f t deep d at)
 

@@ -18,6 +18,7 @@ use Rattle.resolve.specs.Expr as expr
 use Rattle.resolve.specs.Resolve.{Resolved, select, refused}
 use Rattle.resolve.specs.Claims.{resolvedBy, verdictOf, Accepted as Given}
 use Rattle.resolve.specs.declared.Files.{Files}
+use Rattle.resolve.specs.declared.Sums.{Sums}
 use Rattle.resolve.specs.declared.Verdict.the-variants as verdict
 use Rattle.tree.specs.Tree.{Tree, SelectTree, size, encode}
 use Rattle.tree.specs.Trans.{Class, fixed, asTree}
@@ -41,9 +42,10 @@ treeAt c v f q = translated (f .k) q (selectAt c v f)
 -- a view that was accepted: its structure, its names and its types
 pub record Viewed (c ss v : List ℕ) (f : Files) : Type 0 where
   pub given : Given c ss v f
-  pub fine : verdictOf (resolvedBy (tablesFrom c (f .nc) (f .nc) 0) (parseView v)) ≡ verdict.Fine
+  pub sums : Sums
+  pub fine : verdictOf (f .k) (resolvedBy (tablesFrom c (f .nc) (f .nc) 0) (parseView v)) ≡ verdict.Fine sums
 
--- so many values in a row are accepted, in the scope of SELECT's block; their bytes and their sizes
+-- so many values in a row are accepted, in the scope of SELECT's block; their bytes
 unfoldable pub Accepts : List ℕ → List ℕ → List ℕ → Files → List Scope → ℕ → ℕ → Type 0
 Accepts c ss v f t zero m = Unit {0}
 Accepts c ss v f t (suc i) m = Accepted c ss v f t 1 15 m × Accepts c ss v f t i (nextAt v f 15 m)
@@ -51,10 +53,6 @@ Accepts c ss v f t (suc i) m = Accepted c ss v f t 1 15 m × Accepts c ss v f t 
 unfoldable pub pairBytes : List ℕ → List ℕ → Files → List Scope → ℕ → ℕ → List ℕ
 pairBytes c v f t zero m = []
 pairBytes c v f t (suc i) m = encode (dataAt c v f t 1 15 m) ++ (encode (asTree (classAt c v f t 1 15 m)) ++ pairBytes c v f t i (nextAt v f 15 m))
-
-unfoldable pub pairSize : List ℕ → List ℕ → Files → List Scope → ℕ → ℕ → ℕ
-pairSize c v f t zero m = 0
-pairSize c v f t (suc i) m = size (dataAt c v f t 1 15 m) + (size (asTree (classAt c v f t 1 15 m)) + pairSize c v f t i (nextAt v f 15 m))
 
 -- tests before the rest of a where: and(test, ..
 unfoldable pub flat : List Tree → List ℕ

@@ -19,7 +19,7 @@ ghost use Rattle.tree.specs.Trans.{asTree, choice};
 ghost use Rattle.tree.specs.Claims.{dataAt, Accepted};
 ghost use Rattle.label.specs.Claims.{classAt, IsTree, Told, IsBinop};
 ghost use Rattle.label.specs.Found.{cellTree, rowTree};
-ghost use Rattle.label.specs.Rows.{Rowed, HasValue, atWhere, atKept, atRow};
+ghost use Rattle.label.specs.Rows.{Rowed, hasValue, HasValue, atWhere, atKept, atRow};
 
 // What is known of an accepted value.
 fn known(
@@ -54,6 +54,16 @@ fn last_of(s: scope::Scope) -> usize
 {
     let count = s.count;
     (count - 1) as usize
+}
+
+// Whether a block has a value: VALUE, MAX and MIN.
+fn has_value(asked: resolve::Asked) -> bool
+    ensures { λ r. ⌜ r ≡ hasValue asked ⌝ }
+{
+    match asked {
+        resolve::Asked::Rows(_) => false,
+        resolve::Asked::Values(_) => true,
+    }
 }
 
 // The class of what COL finds.
@@ -130,7 +140,7 @@ fn write_open(
         view::Node::Binop(_) => write_binop(cat, starts, view, f, at, depth, t, deep, out, to),
         view::Node::Not => write_c(cat, starts, view, f, at + 1, depth - 1, t, deep, out, to),
         view::Node::If => write_if(cat, starts, view, f, at, depth, t, deep, out, to),
-        view::Node::Exists(a) => write_block(
+        view::Node::Exists(a, q) => write_block(
             cat,
             starts,
             view,
@@ -140,11 +150,11 @@ fn write_open(
             t,
             deep,
             a,
-            false,
+            resolve::Asked::Rows(q),
             out,
             to,
         ),
-        view::Node::Single(a) => write_block(
+        view::Node::Single(a, g) => write_block(
             cat,
             starts,
             view,
@@ -154,7 +164,7 @@ fn write_open(
             t,
             deep,
             a,
-            true,
+            resolve::Asked::Values(g),
             out,
             to,
         ),
@@ -395,7 +405,7 @@ fn write_let(
     }
 }
 
-// EXISTS, or VALUE where `single` says so: LUB of AGG over what is read at a row, and the tables' class.
+// A block of whose rows or values something is asked: LUB of AGG over what is read at a row, and the tables' class.
 fn write_block(
     cat: &[u8],
     starts: &[u16; 32],
@@ -406,12 +416,12 @@ fn write_block(
     t: [scope::Scope; 16],
     deep: usize,
     count: u16,
-    single: bool,
+    asked: resolve::Asked,
     out: &mut [u8],
     to: usize,
 ) -> usize
     requires { ⌜ Accepted (now cat) (now starts) (now view) f t deep depth at ⌝ }
-    requires { ⌜ nodeAt (now view) at ≡ blockNode single count ⌝ }
+    requires { ⌜ nodeAt (now view) at ≡ blockNode asked count ⌝ }
     requires { ⌜ Room (now out) to (encode (asTree (classAt (now cat) (now view) f t deep depth at))) ⌝ }
     ensures { λ r. ⌜ Wrote (now (out .entry)) to (encode (asTree (classAt (now (cat .entry)) (now (view .entry)) f t deep depth at))) (now (out .exit)) r ⌝ }
 {
@@ -423,6 +433,7 @@ fn write_block(
     let s = o.scope;
     let u = scope::pushed(t, deep, s);
     let k = scope::block_class(s, cat, f.nc);
+    let single = has_value(asked);
     let test = first + m;
     let p = word::put_rec(out, to, 25, 0, 0, 0, 0);
     let q = word::put_rec(out, p, 27, 0, count, 0, 0);
@@ -444,7 +455,7 @@ fn write_block(
     word::put_rec(out, z, 6, 0, k, 0, 0)
 }
 
-// What is read at one row of a block: the row classes and the where, and for VALUE the choice of the value's class and 0.
+// What is read at one row of a block: the row classes and the where, and where it has a value the choice of the value's class and 0.
 fn write_at_row(
     cat: &[u8],
     starts: &[u16; 32],

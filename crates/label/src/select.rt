@@ -4,7 +4,7 @@ ghost use mathlib.Core.Path.{_≡_};
 ghost use mathlib.Core.Bool.{cond};
 ghost use Prim.Native.Nat.{ℕ, _+_, _*_, _≤_};
 ghost use Rattle.class.specs.Class.{dominatesb};
-ghost use Rattle.resolve.specs.Sizes.{capped};
+ghost use Rattle.resolve.specs.Sizes.{capped, sumsOf};
 ghost use lib.ListN.{length};
 ghost use Rattle.word.specs.Buffer.{Wrote, Room};
 ghost use Rattle.view.specs.Record.{nodeAt};
@@ -16,7 +16,7 @@ ghost use Rattle.tree.specs.Select.{test};
 ghost use Rattle.tree.specs.Claims.{Accepted};
 ghost use Rattle.label.specs.Claims.{classAt};
 ghost use Rattle.label.specs.Rows.{rowItem, rowsIn};
-ghost use Rattle.label.specs.Whole.{Viewed, Accepts, treeAt, pairBytes, pairSize, flat, testBytes, testSize, classesIn, domBytes};
+ghost use Rattle.label.specs.Whole.{Viewed, Accepts, selectAt, treeAt, pairBytes, flat, testBytes, testSize, classesIn, domBytes};
 use crate::known;
 use crate::rows;
 use crate::write_c;
@@ -240,65 +240,28 @@ fn tests_size(s: scope::Scope, cat: &[u8], n: usize, q: u16, j: usize, left: usi
     plus(x, plus(y, z))
 }
 
-// How many the pairs of so many values from record `at` on take.
-fn pairs_size(
-    cat: &[u8],
-    starts: &[u16; 32],
-    view: &[u8],
-    f: resolve::Files,
-    at: usize,
-    t: [scope::Scope; 16],
-    count: usize,
-) -> usize
-    requires { ⌜ Accepts (now cat) (now starts) (now view) f t count at ⌝ }
-    ensures { λ r. ⌜ r ≡ capped (pairSize (now (cat .entry)) (now (view .entry)) f t count at) ⌝ }
-{
-    let mut i = count;
-    let mut m = at;
-    let mut n = 0;
-    while 0 < i {
-        let x = known(cat, starts, view, f, m, 15, t, 1);
-        n = plus(n, plus(x.values, x.classes));
-        m = x.next;
-        i -= 1;
-    }
-    n
-}
-
-// How many records the tree of a SELECT of so many tables and values takes.
-fn root_size(
+// How many records the tree of an accepted view takes under clearance q, stopped just above 8,190: its tables, the tests, and what its parts were found to take.
+pub fn measure(
     cat: &[u8],
     starts: &[u16; 32],
     view: &[u8],
     f: resolve::Files,
     q: u16,
-    tables: u16,
-    values: u16,
+    sums: resolve::Sums,
 ) -> usize
-    requires { ⌜ Viewed (now cat) (now starts) (now view) f × (nodeAt (now view) 0 ≡ Select tables values) ⌝ }
-    ensures { λ r. ⌜ r ≡ capped (sizeSelect (treeAt (now (cat .entry)) (now (view .entry)) f q)) ⌝ }
-{
-    let m = tables as usize;
-    let test = 1 + m;
-    let o = scope::open_block(cat, f.nc, starts, f.tables, view, 1, m);
-    let s = o.scope;
-    let t = [s; 16];
-    let a = tests_size(s, cat, f.nc, q, 0, m);
-    let x = known(cat, starts, view, f, test, 15, t, 1);
-    let i = x.info;
-    let b = test_size(q, class::bound_of(i), x.classes);
-    let c = pairs_size(cat, starts, view, f, x.next, t, values as usize);
-    plus(plus(test, a), plus(plus(b, x.values), c))
-}
-
-// How many records the tree of an accepted view takes under clearance q, stopped just above 8,190.
-pub fn measure(cat: &[u8], starts: &[u16; 32], view: &[u8], f: resolve::Files, q: u16) -> usize
     requires { ⌜ Viewed (now cat) (now starts) (now view) f ⌝ }
+    requires { ⌜ sums ≡ sumsOf (f .k) (selectAt (now cat) (now view) f) ⌝ }
     ensures { λ r. ⌜ r ≡ capped (sizeSelect (treeAt (now (cat .entry)) (now (view .entry)) f q)) ⌝ }
 {
     let node = view::node_at(view, 0);
-    let view::Node::Select(a, b) = node else {
+    let view::Node::Select(tables, _) = node else {
         return 0;
     };
-    root_size(cat, starts, view, f, q, a, b)
+    let m = tables as usize;
+    let o = scope::open_block(cat, f.nc, starts, f.tables, view, 1, m);
+    let s = o.scope;
+    let a = tests_size(s, cat, f.nc, q, 0, m);
+    let i = sums.info;
+    let b = test_size(q, class::bound_of(i), sums.classes);
+    plus(plus(1 + m, a), plus(plus(b, sums.values), sums.pairs))
 }

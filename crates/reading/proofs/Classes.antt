@@ -213,17 +213,17 @@ module _ (cat : List Table) (k : ℕ) (st : List (List Row)) (accepted : StoreGo
       (join-ok st σ (C k is x) (choice (D x) (C k is y) (C k is z)) _ _ (class-ok c (h .0) is ρ σ x T.Boolean e₁ m)
       (choice-ok st σ (D x) (eval cat k st ρ c) (data-ok cat k st accepted ruled c (h .0) is ρ σ x T.Boolean e₁ (weaken m)) (C k is y) (C k is z) _ _
       (class-ok a (h .1) is ρ σ y t e₂ m) (class-ok b (h .2) is ρ σ z u e₃ m)))
-  class-ok (ast.Exp.exists at names w) h is ρ σ X U e m =
-      exists-elim cat (map scopeOf ρ) X U at names w e λ ts x e₁ e₂ p q.
+  class-ok (ast.Exp.exists at f names w) h is ρ σ X U e m =
+      exists-elim cat (map scopeOf ρ) X U at f names w e λ ts x e₁ e₂ p q.
       let (er, oks) = block-ok cat st accepted ts (tables-ok cat names ts e₁) in
       rw (e₁, p)
       (agg-ok st σ ts er (C k (Fixed 0 ∷ is) x ∷ []) (λ rs. rowClasses rs ++ reads cat k st (rows ts rs ∷ ρ) w)
       (all-imp (λ rs. All2 RowGood (tablesOf ts) rs) _
       (λ rs ok. where-class st σ ts rs (C k (Fixed 0 ∷ is) x) (reads cat k st (rows ts rs ∷ ρ) w) ok
-      (class-ok w h (Fixed 0 ∷ is) (rows ts rs ∷ ρ) (machine.Frame.rows rs ∷ σ) x T.Boolean e₂ (m-rows (tables-rule cat names ts ruled e₁) ok m)))
+      (class-ok w (h .1) (Fixed 0 ∷ is) (rows ts rs ∷ ρ) (machine.Frame.rows rs ∷ σ) x T.Boolean e₂ (m-rows (tables-rule cat names ts ruled e₁) ok m)))
       (rowsOver st ts) oks))
-  class-ok (ast.Exp.single at names w v) h is ρ σ X U e m =
-      single-elim cat (map scopeOf ρ) X U at names w v e λ ts x y e₁ e₂ e₃ p.
+  class-ok (ast.Exp.single at g names w v) h is ρ σ X U e m =
+      single-elim cat (map scopeOf ρ) X U at g names w v e λ ts x y e₁ e₂ e₃ o p.
       let (er, oks) = block-ok cat st accepted ts (tables-ok cat names ts e₁) in
       let r = tables-rule cat names ts ruled e₁ in
       rw (e₁, p)

@@ -3,13 +3,13 @@
 use Prim.Native.Nat.{ℕ}
 use mathlib.Core.Path.{_≡_, refl, ap}
 use mathlib.Core.Bool.{Bool, true, false, cond}
-use mathlib.Core.List.{List, [], _∷_, map}
+use mathlib.Core.List.{List, _∷_, map}
 use mathlib.Core.Option.{none}
 use Rattle.class.specs.declared.Info.{Info}
 use Rattle.class.specs.declared.Info.the-variants.{Fixed}
 use Rattle.cell.specs.Res.{Res, done, bind, orElse}
 use Rattle.cell.specs.Types.{digitsOf, scaleOf, sameType}
-use Rattle.cell.specs.Values.{HasTy, ok-null, ok-truth, ok-class}
+use Rattle.cell.specs.Values.{HasTy, ok-class}
 use Rattle.cell.specs.Apply.{apply, settled, convert, asCond}
 use Rattle.cell.specs.declared.Type.{«Type» as Ty}
 use Rattle.cell.specs.declared.Type.the-variants as T
@@ -17,7 +17,7 @@ use Rattle.cell.specs.declared.Value.{Value}
 use Rattle.cell.specs.declared.Value.the-variants as X
 use Rattle.cell.proofs.Sound.{Gives, apply-sound, negate-sound, cond-sound, same-has, wider-left, wider-right, settled-apply}
 use Rattle.catalogue.specs.Tables.{Table}
-use Rattle.store.specs.Rows.{Row, All, All2}
+use Rattle.store.specs.Rows.{Row, All2}
 use Rattle.view.specs.Ast.{Exp}
 use Rattle.view.specs.Ast as ast
 use Rattle.scope.specs.Scopes.{local, column, bound}
@@ -27,14 +27,14 @@ use Rattle.resolve.specs.Resolve.{good, brought, resolve}
 use Rattle.tree.specs.Trans.{D}
 use Rattle.run.specs.Run.{run}
 use Rattle.run.specs.Run as machine
-use Rattle.reading.specs.Reading.{Frame, rows, known, scopeOf, typeOut, tabsOut, rowsOver, isTrue, keep, onlyValue, toType, eval, reads}
-use Rattle.reading.proofs.Lists.{all-imp, all-keep}
+use Rattle.reading.specs.Reading.{Frame, rows, known, scopeOf, typeOut, tabsOut, rowsOver, isTrue, keep, toType, eval, reads}
+use Rattle.reading.proofs.Lists.{all-imp, all-map, all-keep}
 use Rattle.reading.proofs.Inversion.{const-elim, binop-elim, neg-elim, if-elim, exists-elim, single-elim, col-elim, classof-elim, let-elim}
 use Rattle.reading.proofs.Names.{found-stands, tables-ok}
 use Rattle.reading.proofs.WellTyped.{TablesRule, ConstsOk, tables-rule, well-typed}
 use Rattle.reading.proofs.Scopes.{RowGood, StoreGood, tablesOf, Match, m-rows, m-known, Free, scopes-rule, frame-known, cell-found, block-ok}
 use Rattle.reading.proofs.References.{column-value, classof-value, local-value}
-use Rattle.reading.proofs.Folds.{exists-fold, value-fold}
+use Rattle.reading.proofs.Folds.{fold-is, fold-typed, pick-is, pick-typed}
 
 -- the outcome of a tree is that value, null or of the type
 abbrev pub Good : Ty → Res Value → Value → Type 0
@@ -76,12 +76,6 @@ limb-good st σ t r x v c (e, h) = go (sameType t r) refl
     go true q = (e, same-has t r q h)
     go false q = rw e (take (c q))
 
-only-typed : {A : Type 0} (t : Ty) (v : A → Value) (xs : List A) → All (λ x. HasTy t (v x)) xs → HasTy t (onlyValue (map v xs))
-unfolding onlyValue
-only-typed t v [] h = ok-null
-only-typed t v (x ∷ []) h = h .0
-only-typed t v (x ∷ (y ∷ xs)) h = ok-null
-
 -- LET's body is read with its local known: the value's type, value and all that it read
 module _ (cat : List Table) (k : ℕ) (st : List (List Row)) (ρ : List Frame) (at name : ℕ) (v b : Exp) (x : Expr) (s : Ty) (e : resolve cat (map scopeOf ρ) v ≡ good x s) where
   pub let-value : eval cat k st ρ (ast.Exp.letin at name v b) ≡ eval cat k st (known name s (eval cat k st ρ v) (reads cat k st ρ v) ∷ ρ) b
@@ -117,19 +111,20 @@ module _ (cat : List Table) (k : ℕ) (st : List (List Row)) (accepted : StoreGo
       (if-good w
       (limb-good st σ t U y (eval cat k st ρ a) (λ q. wider-left t u U e₄ r q (ga .1)) ga)
       (limb-good st σ u U z (eval cat k st ρ b) (λ q. wider-right t u U e₄ r q (gb .1)) gb))
-  data-ok (ast.Exp.exists at names w) h is ρ σ X U e m =
-      exists-elim cat (map scopeOf ρ) X U at names w e λ ts x e₁ e₂ p q.
+  data-ok (ast.Exp.exists at f names w) h is ρ σ X U e m =
+      exists-elim cat (map scopeOf ρ) X U at f names w e λ ts x e₁ e₂ p q.
       let (er, oks) = block-ok cat st accepted ts (tables-ok cat names ts e₁) in
       let ws = all-imp (λ rs. All2 RowGood (tablesOf ts) rs)
       (λ rs. bind (run st (D x) (machine.Frame.rows rs ∷ σ)) asCond ≡ done (isTrue (eval cat k st (rows ts rs ∷ ρ) w)))
-      (λ rs ok. cond-run (data-ok w h (Fixed 0 ∷ is) (rows ts rs ∷ ρ) (machine.Frame.rows rs ∷ σ) x T.Boolean e₂ (m-rows (tables-rule cat names ts ruled e₁) ok m)))
+      (λ rs ok. cond-run (data-ok w (h .1) (Fixed 0 ∷ is) (rows ts rs ∷ ρ) (machine.Frame.rows rs ∷ σ) x T.Boolean e₂ (m-rows (tables-rule cat names ts ruled e₁) ok m)))
       (rowsOver st ts) oks in
-      rw (e₁, p, q, er, exists-fold (λ rs. bind (run st (D x) (machine.Frame.rows rs ∷ σ)) asCond) (λ rs. isTrue (eval cat k st (rows ts rs ∷ ρ) w)) (rowsOver st ts) ws)
-      (refl, ok-truth)
-  data-ok (ast.Exp.single at names w v) h is ρ σ X U e m =
-      single-elim cat (map scopeOf ρ) X U at names w v e λ ts x y e₁ e₂ e₃ p.
+      rw (e₁, p, q, er, fold-is f (λ rs. bind (run st (D x) (machine.Frame.rows rs ∷ σ)) asCond) (λ rs. isTrue (eval cat k st (rows ts rs ∷ ρ) w)) (rowsOver st ts) ws)
+      (refl, fold-typed f (map (λ rs. isTrue (eval cat k st (rows ts rs ∷ ρ) w)) (rowsOver st ts)) (h .0))
+  data-ok (ast.Exp.single at g names w v) h is ρ σ X U e m =
+      single-elim cat (map scopeOf ρ) X U at g names w v e λ ts x y e₁ e₂ e₃ o p.
       let (er, oks) = block-ok cat st accepted ts (tables-ok cat names ts e₁) in
       let r = tables-rule cat names ts ruled e₁ in
+      let u = well-typed cat ruled (ast.Exp.single at g names w v) h (map scopeOf ρ) (scopes-rule m) X U e in
       let ws = all-imp (λ rs. All2 RowGood (tablesOf ts) rs)
       (λ rs. bind (run st (D x) (machine.Frame.rows rs ∷ σ)) asCond ≡ done (isTrue (eval cat k st (rows ts rs ∷ ρ) w)))
       (λ rs ok. cond-run (data-ok w (h .0) (Fixed 0 ∷ is) (rows ts rs ∷ ρ) (machine.Frame.rows rs ∷ σ) x T.Boolean e₂ (m-rows r ok m)))
@@ -143,14 +138,14 @@ module _ (cat : List Table) (k : ℕ) (st : List (List Row)) (accepted : StoreGo
         e₁,
         p,
         er,
-        value-fold (λ rs. bind (run st (D x) (machine.Frame.rows rs ∷ σ)) asCond) (λ rs. run st (D y) (machine.Frame.rows rs ∷ σ))
-            (λ rs. isTrue (eval cat k st (rows ts rs ∷ ρ) w)) (λ rs. eval cat k st (rows ts rs ∷ ρ) v) (rowsOver st ts) ws
-            (all-imp _ (λ rs. run st (D y) (machine.Frame.rows rs ∷ σ) ≡ done (eval cat k st (rows ts rs ∷ ρ) v)) (λ rs g. g .0) (rowsOver st ts) vs),
+        pick-is g U u o (λ rs. bind (run st (D x) (machine.Frame.rows rs ∷ σ)) asCond) (λ rs. run st (D y) (machine.Frame.rows rs ∷ σ))
+            (λ rs. isTrue (eval cat k st (rows ts rs ∷ ρ) w)) (λ rs. eval cat k st (rows ts rs ∷ ρ) v) (rowsOver st ts) ws vs,
       ) (
         refl,
-        only-typed U (λ rs. eval cat k st (rows ts rs ∷ ρ) v) (keep bs (rowsOver st ts))
+        pick-typed g U (map (λ rs. eval cat k st (rows ts rs ∷ ρ) v) (keep bs (rowsOver st ts)))
+            (all-map (HasTy U) (λ rs. eval cat k st (rows ts rs ∷ ρ) v) (keep bs (rowsOver st ts))
             (all-keep (λ rs. HasTy U (eval cat k st (rows ts rs ∷ ρ) v)) bs (rowsOver st ts)
-            (all-imp _ (λ rs. HasTy U (eval cat k st (rows ts rs ∷ ρ) v)) (λ rs g. g .1) (rowsOver st ts) vs)),
+            (all-imp _ (λ rs. HasTy U (eval cat k st (rows ts rs ∷ ρ) v)) (λ rs g. g .1) (rowsOver st ts) vs))),
       )
   data-ok (ast.Exp.col at name q) h is ρ σ X U e m =
       col-elim cat (map scopeOf ρ) X U at name q e

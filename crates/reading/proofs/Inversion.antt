@@ -1,7 +1,7 @@
 -- What a value that is resolved went through, kind by kind, handed on as variables: its children resolved, the rule kept, the expression made of theirs.
 -- Assumes nothing.
 use Prim.Native.Nat.{ℕ}
-use mathlib.Core.Path.{_≡_}
+use mathlib.Core.Path.{_≡_, subst}
 use mathlib.Core.List.{List, [], _∷_}
 use Rattle.cell.specs.Res.{done}
 use Rattle.cell.specs.Types.{digitsOf, binopType, limbType}
@@ -11,12 +11,15 @@ use Rattle.cell.specs.declared.Value.{Value}
 use Rattle.catalogue.specs.Tables.{Table, Column, TabRef}
 use Rattle.view.specs.Ast.{TabName, Exp}
 use Rattle.view.specs.Ast as ast
+use Rattle.view.specs.declared.Fold.{Fold}
+use Rattle.view.specs.declared.Pick.{Pick}
 use Rattle.scope.specs.Scopes.{Open, local, column, bound, one, find}
 use Rattle.scope.specs.Blocks.{all, tablesNamed, opened}
 use Rattle.resolve.specs.Expr.{Expr}
 use Rattle.resolve.specs.Expr as expr
+use Rattle.resolve.specs.Totals.{foldType, pickType}
 use Rattle.resolve.specs.Resolve.{good, brought, resolve, goods, resolveAll}
-use Rattle.resolve.proofs.Inversion.{const-good, bin-good, neg-good, if-good, exists-good, single-good, let-good, ColGood, of-column, of-local, col-good, classof-good, all-good}
+use Rattle.resolve.proofs.Inversion.{const-good, bin-good, neg-good, if-good, exists-good, single-good, pick-same, let-good, ColGood, of-column, of-local, col-good, classof-good, all-good}
 
 module _ {G : Type 0} (cat : List Table) (Γ : List Open) (X : Expr) (U : Ty) where
   pub const-elim : (at : ℕ) (t : Ty) (v : Value) → resolve cat Γ (ast.Exp.const at t v) ≡ good X U →
@@ -39,17 +42,21 @@ module _ {G : Type 0} (cat : List Table) (Γ : List Open) (X : Expr) (U : Ty) wh
       let g = if-good cat Γ X U at c l r e in
       k (g .w) (g .y) (g .z) (g .s) (g .u) (g .condition) (g .left) (g .right) (g .rule) (g .is)
 
-  pub exists-elim : (at : ℕ) (names : List TabName) (w : Exp) → resolve cat Γ (ast.Exp.exists at names w) ≡ good X U →
+  -- EXISTS and COUNT
+  pub exists-elim : (at : ℕ) (f : Fold) (names : List TabName) (w : Exp) → resolve cat Γ (ast.Exp.exists at f names w) ≡ good X U →
       ((ts : List TabRef) (x : Expr) → tablesNamed cat names ≡ all ts → resolve cat (opened ts ∷ Γ) w ≡ good x T.Boolean →
-      X ≡ expr.Expr.exists ts x → U ≡ T.Boolean → G) → G
-  exists-elim at names w e k = let g = exists-good cat Γ X U at names w e in k (g .tabs) (g .y) (g .there) (g .test) (g .is) (g .type-is)
+      X ≡ expr.Expr.exists f ts x → U ≡ foldType f → G) → G
+  exists-elim at f names w e k = let g = exists-good cat Γ X U at f names w e in k (g .tabs) (g .y) (g .there) (g .test) (g .is) (g .type-is)
 
-  pub single-elim : (at : ℕ) (names : List TabName) (w v : Exp) → resolve cat Γ (ast.Exp.single at names w v) ≡ good X U →
+  -- VALUE, MAX and MIN are of their value's type
+  pub single-elim : (at : ℕ) (p : Pick) (names : List TabName) (w v : Exp) → resolve cat Γ (ast.Exp.single at p names w v) ≡ good X U →
       ((ts : List TabRef) (x y : Expr) → tablesNamed cat names ≡ all ts → resolve cat (opened ts ∷ Γ) w ≡ good x T.Boolean →
-      resolve cat (opened ts ∷ Γ) v ≡ good y U → X ≡ expr.Expr.single ts x y → G) → G
-  single-elim at names w v e k =
-      let g = single-good cat Γ X U at names w v e in
-      k (g .tabs) (g .y) (g .z) (g .there) (g .test) (g .value) (g .is)
+      resolve cat (opened ts ∷ Γ) v ≡ good y U → pickType p U ≡ done U → X ≡ expr.Expr.single p ts x y → G) → G
+  single-elim at p names w v e k =
+      let g = single-good cat Γ X U at p names w v e in
+      let s = pick-same p (g .s) U (g .rule) in
+      k (g .tabs) (g .y) (g .z) (g .there) (g .test) (subst (λ (t : Ty). resolve cat (opened (g .tabs) ∷ Γ) v ≡ good (g .z) t) s (g .value))
+      (subst (λ (t : Ty). pickType p t ≡ done U) s (g .rule)) (g .is)
 
   -- COL: the one match is a column or a local
   pub col-elim : (at name q : ℕ) → resolve cat Γ (ast.Exp.col at name q) ≡ good X U →

@@ -25,16 +25,17 @@ use Rattle.view.specs.Ast.{Block, Parsed, ok, refused, andThen, firstOf}
 use Rattle.view.specs.Parse.{enterNode, enter, many, nameOf, parseTable, parseBlock, parseNode, parseValue, rootNode, parseRoot, parseView}
 use Rattle.scope.specs.Scopes.{onlyOf, inCols, inTable, inTabs, inScope, nearest, find}
 use Rattle.scope.specs.Blocks.{before, foundAt, tablesNamed}
+use Rattle.resolve.specs.Totals.{foldType, orderedType, pickType}
 use Rattle.resolve.specs.Resolve.{then, colOut, classOut, onTabs, ruled, needBool, brought, resolve, alsoOut, resolveAll, Resolved, select, withValues, withTest, withTabs, resolveView}
 use Rattle.resolve.specs.Resolve as resolving
-use Rattle.tree.specs.Tree.{size, sizePairs, sizeSelect, tableRecs, encode, encodePairs, encodeSelect, treeFile}
+use Rattle.tree.specs.Tree.{size, sizePairs, sizeSelect, tableRecs, foldKind, foldOp, pickKind, encode, encodePairs, encodeSelect, treeFile}
 use Rattle.tree.specs.Trans.{D, C, asTree, bound, infoOf, byInfo, join, joins, joinAll, sameFixed, choice, letClass, rowClasses, blockClass}
 use Rattle.tree.specs.Select.{test, tableTests, conj, translated}
-use Rattle.run.specs.Run.{concatMap, product, rowsFor, existsStep, valueStep, keptValue, aggStep, run}
+use Rattle.run.specs.Run.{concatMap, product, rowsFor, existsStep, valueStep, keptValue, countStep, ordered, better, bestStep, foldOver, pickOver, aggStep, run}
 use Rattle.run.specs.Run as machine
 use Rattle.run.specs.Answer.{Shown, shown, withheld, cellFor, pairAt, concat, runSelect}
 use Rattle.run.specs.Answer as answer
-use Rattle.reading.specs.Reading.{scopeOf, asRows, asKnown, rowIn, cellIn, knownIn, typeOut, tabsOut, rowsOver, isTrue, anyTrue, keep, onlyValue, toType, colValue, classValue, colReads, classReads, eval, sees, kept, answerByReading}
+use Rattle.reading.specs.Reading.{scopeOf, asRows, asKnown, rowIn, cellIn, knownIn, typeOut, tabsOut, rowsOver, isTrue, anyTrue, keep, onlyValue, countTrue, foldValue, betterOf, bestOf, pickValue, toType, colValue, classValue, colReads, classReads, eval, sees, kept, answerByReading}
 
 -- ---- files
 
@@ -196,6 +197,18 @@ pub record Samples : Type 0 where
       ask (r 11 0 1 0 0 ∷ r 12 0 7 0 0 ∷ r 14 0 21 0 0 ∷ r 14 0 20 0 0 ∷ []) ∷
       ask (r 11 0 1 0 0 ∷ r 12 0 7 0 0 ∷ r 2 1 0 0 0 ∷ r 14 0 20 0 0 ∷ []) ∷
       ask (r 11 0 1 0 0 ∷ r 12 0 7 0 0 ∷ r 7 12 0 0 0 ∷ r 14 0 20 0 0 ∷ r 3 65 0 200 0 ∷ r 14 0 33 0 0 ∷ []) ∷
+      -- COUNT: of the kept rows, with the class of all; of both rows; of no row; of 16 rows at one digit
+      ask (r 28 16 1 0 0 ∷ r 12 0 7 0 0 ∷ r 14 0 21 0 0 ∷ []) ∷
+      ask (r 28 16 1 0 0 ∷ r 12 0 7 0 0 ∷ r 2 1 0 0 0 ∷ []) ∷
+      ask (r 28 16 1 0 0 ∷ r 12 0 9 0 0 ∷ r 2 1 0 0 0 ∷ []) ∷
+      ask (r 28 16 4 0 0 ∷ r 12 0 7 0 0 ∷ r 12 0 7 0 0 ∷ r 12 0 7 0 0 ∷ r 12 0 7 0 0 ∷ r 2 1 0 0 0 ∷ []) ∷
+      -- MAX and MIN: of both rows; of no kept row; of a row's value and a null; of a time; of an interval
+      ask (r 29 0 1 0 0 ∷ r 12 0 7 0 0 ∷ r 2 1 0 0 0 ∷ r 14 0 20 0 0 ∷ []) ∷
+      ask (r 30 0 1 0 0 ∷ r 12 0 7 0 0 ∷ r 2 1 0 0 0 ∷ r 14 0 20 0 0 ∷ []) ∷
+      ask (r 29 0 1 0 0 ∷ r 12 0 7 0 0 ∷ r 2 0 0 0 0 ∷ r 14 0 20 0 0 ∷ []) ∷
+      ask (r 30 0 1 0 0 ∷ r 12 0 7 0 0 ∷ r 2 1 0 0 0 ∷ r 7 3 0 0 0 ∷ r 14 0 20 0 0 ∷ r 3 66 0 500 0 ∷ []) ∷
+      ask (r 29 0 1 0 0 ∷ r 12 0 8 0 0 ∷ r 2 1 0 0 0 ∷ r 14 0 30 0 0 ∷ []) ∷
+      ask (r 30 0 1 0 0 ∷ r 12 0 8 0 0 ∷ r 2 1 0 0 0 ∷ r 14 0 31 0 0 ∷ []) ∷
       -- COL with its table's name, CLASSOF
       ask (r 14 0 33 8 0 ∷ []) ∷
       ask (r 15 0 33 0 0 ∷ []) ∷
@@ -224,6 +237,16 @@ pub record Samples : Type 0 where
       is (Fixed 2 (pos 1234)) 8193 ∷
       is Null 4097 ∷
       is (Fixed 1 (pos 15)) 8193 ∷
+      is (Fixed 0 (pos 1)) 8193 ∷
+      is (Fixed 0 (pos 2)) 4097 ∷
+      is (Fixed 0 (pos 0)) 0 ∷
+      is Null 4097 ∷
+      is (Fixed 2 (pos 5678)) 4097 ∷
+      is (Fixed 2 (pos 1234)) 4097 ∷
+      is Null 4097 ∷
+      is (Fixed 2 (pos 6170)) 4097 ∷
+      is (Time (pos 1000)) 4099 ∷
+      is (Interval (negsuc 9)) 4101 ∷
       is (Fixed 1 (pos 15)) 8192 ∷
       is (Class 8192) 4096 ∷
       is (Fixed 1 (pos 30)) 8192 ∷
@@ -245,12 +268,13 @@ pub record Samples : Type 0 where
       (r 13 0 1 1 0 ∷ r 12 0 8 0 0 ∷ r 2 1 0 0 0 ∷ r 16 0 30 0 0 ∷ r 1 0 0 0 0 ∷ r 15 0 30 0 0 ∷ []) ∷
       -- 8: a table taken twice
       (r 13 0 2 1 0 ∷ r 12 0 8 0 0 ∷ r 12 0 8 0 0 ∷ r 2 1 0 0 0 ∷ r 14 0 30 0 0 ∷ []) ∷
-      -- 9: an operator, NOT, a condition, two limbs, a block's where; SELECT's own where after its values
+      -- 9: an operator, NOT, a condition, two limbs, a block's where, MAX of a boolean; SELECT's own where after its values
       (r 13 0 1 1 0 ∷ r 12 0 8 0 0 ∷ r 2 1 0 0 0 ∷ r 7 5 0 0 0 ∷ r 2 1 0 0 0 ∷ r 14 0 33 0 0 ∷ []) ∷
       (r 13 0 1 1 0 ∷ r 12 0 8 0 0 ∷ r 2 1 0 0 0 ∷ r 8 0 0 0 0 ∷ r 14 0 33 0 0 ∷ []) ∷
       (r 13 0 1 1 0 ∷ r 12 0 8 0 0 ∷ r 2 1 0 0 0 ∷ r 9 0 0 0 0 ∷ r 1 0 0 0 0 ∷ r 1 0 0 0 0 ∷ r 1 0 0 0 0 ∷ []) ∷
       (r 13 0 1 1 0 ∷ r 12 0 8 0 0 ∷ r 2 1 0 0 0 ∷ r 9 0 0 0 0 ∷ r 2 1 0 0 0 ∷ r 14 0 30 0 0 ∷ r 14 0 31 0 0 ∷ []) ∷
       (r 13 0 1 1 0 ∷ r 12 0 8 0 0 ∷ r 2 1 0 0 0 ∷ r 10 0 1 0 0 ∷ r 12 0 7 0 0 ∷ r 14 0 20 0 0 ∷ []) ∷
+      (r 13 0 1 1 0 ∷ r 12 0 8 0 0 ∷ r 2 1 0 0 0 ∷ r 29 0 1 0 0 ∷ r 12 0 7 0 0 ∷ r 2 1 0 0 0 ∷ r 14 0 21 0 0 ∷ []) ∷
       (r 13 0 1 1 0 ∷ r 12 0 8 0 0 ∷ r 14 0 33 0 0 ∷ r 14 0 99 0 0 ∷ []) ∷
       (r 13 0 1 1 0 ∷ r 12 0 8 0 0 ∷ r 14 0 33 0 0 ∷ r 14 0 30 0 0 ∷ []) ∷
       []) ≡
@@ -265,10 +289,11 @@ pub record Samples : Type 0 where
       refusal 9 3 ∷
       refusal 9 3 ∷
       refusal 9 3 ∷
+      refusal 9 3 ∷
       refusal 7 3 ∷
       refusal 9 0 ∷
       []
 
 pub worked-cases : Samples
-unfolding ofRun answerBy answersFrom bytesOf treeBy treeFrom header le16 recBytes headed recAt infoBy columnAt colsFrom tableAt tablesFrom catalogueOf later tableNamed constOf nodeOf nodeAt slotOf andThen enterNode enter many nameOf parseTable parseBlock parseNode parseValue rootNode parseRoot parseView onlyOf inCols inTable inTabs inScope nearest find before foundAt tablesNamed then colOut classOut onTabs needBool resolve alsoOut resolveAll withValues withTest withTabs resolveView kindOf typeBy D C asTree bound byInfo dominatesb level mark test tableTests conj translated size sizePairs sizeSelect tableRecs encode encodePairs encodeSelect treeFile constRec numberIn le32 signed32 bits32 i32At lubOf bind orElse nth mapRes digitsRule digitsOf scaleOf formatOf widerOf sumType productType logicType orderType equalType binopType sameType limbType isNull asTruth asFixed asTime asInterval asClass kindV as3 of3 asCond cutFixed cutTime cutInterval productFixed productInterval sumN productN orderN equalN equalV orNull settled logicV apply negate convert cellPlace columnsFrom rowSize placeAfter valueOf cellAt cellsFrom rowAt rowsFrom tableRows tablesRows storeOf firstOf ruled brought infoOf join joins joinAll sameFixed choice letClass rowClasses blockClass concatMap product rowsFor existsStep valueStep keptValue aggStep run machine.asRows machine.asLocal machine.rowIn machine.cellIn machine.localIn machine.classBound cellFor pairAt concat runSelect answer.rowAt scopeOf asRows asKnown rowIn cellIn knownIn typeOut tabsOut rowsOver isTrue anyTrue keep onlyValue toType colValue classValue colReads classReads eval sees kept answerByReading
+unfolding ofRun answerBy answersFrom bytesOf treeBy treeFrom header le16 recBytes headed recAt infoBy columnAt colsFrom tableAt tablesFrom catalogueOf later tableNamed constOf nodeOf nodeAt slotOf andThen enterNode enter many nameOf parseTable parseBlock parseNode parseValue rootNode parseRoot parseView onlyOf inCols inTable inTabs inScope nearest find before foundAt tablesNamed then colOut classOut onTabs needBool resolve alsoOut resolveAll withValues withTest withTabs resolveView kindOf typeBy D C asTree bound byInfo dominatesb level mark test tableTests conj translated size sizePairs sizeSelect tableRecs encode encodePairs encodeSelect treeFile constRec numberIn le32 signed32 bits32 i32At lubOf bind orElse nth mapRes digitsRule digitsOf scaleOf formatOf widerOf sumType productType logicType orderType equalType binopType sameType limbType isNull asTruth asFixed asTime asInterval asClass kindV as3 of3 asCond cutFixed cutTime cutInterval productFixed productInterval sumN productN orderN equalN equalV orNull settled logicV apply negate convert cellPlace columnsFrom rowSize placeAfter valueOf cellAt cellsFrom rowAt rowsFrom tableRows tablesRows storeOf firstOf ruled brought foldType orderedType pickType foldKind foldOp pickKind infoOf join joins joinAll sameFixed choice letClass rowClasses blockClass concatMap product rowsFor existsStep valueStep keptValue countStep ordered better bestStep foldOver pickOver aggStep run machine.asRows machine.asLocal machine.rowIn machine.cellIn machine.localIn machine.classBound cellFor pairAt concat runSelect answer.rowAt scopeOf asRows asKnown rowIn cellIn knownIn typeOut tabsOut rowsOver isTrue anyTrue keep onlyValue countTrue foldValue betterOf bestOf pickValue toType colValue classValue colReads classReads eval sees kept answerByReading
 worked-cases = record { worked-view = refl; each-kind = refl; exists-over-nothing = refl; each-refusal = refl }

@@ -11,7 +11,7 @@ use Rattle.cell.specs.Res.{Res, stuck, done, nth}
 use Rattle.cell.specs.Types.{inRule}
 use Rattle.cell.specs.Values.{HasTy}
 use Rattle.cell.specs.declared.Type.{«Type» as Ty}
-use Rattle.cell.proofs.Typing.{binop-in-rule, limb-in-rule}
+use Rattle.cell.proofs.Typing.{digits-in-rule, binop-in-rule, limb-in-rule}
 use Rattle.catalogue.specs.Fault.{checkOf}
 use Rattle.catalogue.specs.Tables.{Table, Column, TabRef, tableNamed, catalogueOf}
 use Rattle.catalogue.specs.declared.Verdict.the-variants.{Tables}
@@ -19,14 +19,20 @@ use Rattle.catalogue.proofs.Meaning.{accepted}
 use Rattle.catalogue.proofs.Listed.{named-is, table-stands, column-stands, column-in-rule}
 use Rattle.view.specs.Ast.{TabName, Exp, ok}
 use Rattle.view.specs.Ast as ast
+use Rattle.view.specs.Record.{nodeAt}
 use Rattle.view.specs.Parse.{parseValue}
+use Rattle.view.specs.declared.Fold.{Fold}
+use Rattle.view.specs.declared.Fold.the-variants as fold
+use Rattle.view.specs.declared.Node.the-variants.{Exists}
 use Rattle.view.proofs.Constants.{typed-at, ruled-at}
 use Rattle.view.proofs.Induction.{parse-ind}
+use Rattle.view.proofs.Says.{exists-digits}
 use Rattle.scope.specs.Scopes.{Open, block, local, Hit, column, bound, Only, one, onlyOf, inCols, inTable, inTabs, inScope, nearest, find}
 use Rattle.scope.specs.Blocks.{Tabs, all, missing, before, foundAt, tablesNamed, opened}
 use Rattle.resolve.specs.Expr.{Expr}
+use Rattle.resolve.specs.Totals.{foldType}
 use Rattle.resolve.specs.Resolve.{good, resolve}
-use Rattle.resolve.proofs.Inversion.{const-good, bin-good, neg-good, if-good, exists-good, single-good, let-good, ColGood, of-column, of-local, col-good, classof-good}
+use Rattle.resolve.proofs.Inversion.{const-good, bin-good, neg-good, if-good, exists-good, single-good, pick-same, let-good, ColGood, of-column, of-local, col-good, classof-good}
 
 -- ---- types in rule: of columns, tables, open scopes, matches
 
@@ -54,14 +60,14 @@ abbrev HitsRule : List Hit → Type 0
 HitsRule [] = Unit {0}
 HitsRule (h ∷ hs) = HitRule h × HitsRule hs
 
--- every constant of a value is of its type, which is in rule
+-- every constant of a value is of its type, which is in rule, and so is the type of each EXISTS and COUNT
 unfoldable pub ConstsOk : Exp → Type 0
 ConstsOk (ast.Exp.const at t v) = HasTy t v × (inRule t ≡ true)
 ConstsOk (ast.Exp.binop at op l r) = ConstsOk l × ConstsOk r
 ConstsOk (ast.Exp.neg at e) = ConstsOk e
 ConstsOk (ast.Exp.if at c l r) = ConstsOk c × ConstsOk l × ConstsOk r
-ConstsOk (ast.Exp.exists at names w) = ConstsOk w
-ConstsOk (ast.Exp.single at names w v) = ConstsOk w × ConstsOk v
+ConstsOk (ast.Exp.exists at f names w) = (inRule (foldType f) ≡ true) × ConstsOk w
+ConstsOk (ast.Exp.single at p names w v) = ConstsOk w × ConstsOk v
 ConstsOk (ast.Exp.col at name q) = Unit {0}
 ConstsOk (ast.Exp.classof at name q) = Unit {0}
 ConstsOk (ast.Exp.letin at name v b) = ConstsOk v × ConstsOk b
@@ -149,10 +155,11 @@ well-typed cat r (ast.Exp.neg at a) h Γ g X U e = rw (neg-good cat Γ X U at a 
 well-typed cat r (ast.Exp.if at c a b) h Γ g X U e =
     let w = if-good cat Γ X U at c a b e in
     limb-in-rule (w .s) (w .u) U (w .rule) (well-typed cat r a (h .1) Γ g (w .y) (w .s) (w .left)) (well-typed cat r b (h .2) Γ g (w .z) (w .u) (w .right))
-well-typed cat r (ast.Exp.exists at names a) h Γ g X U e = rw (exists-good cat Γ X U at names a e .type-is)
-well-typed cat r (ast.Exp.single at names a v) h Γ g X U e =
-    let w = single-good cat Γ X U at names a v e in
-    well-typed cat r v (h .1) (opened (w .tabs) ∷ Γ) (tables-rule cat names (w .tabs) r (w .there), g) (w .z) U (w .value)
+well-typed cat r (ast.Exp.exists at f names a) h Γ g X U e = rw (exists-good cat Γ X U at f names a e .type-is) (h .0)
+well-typed cat r (ast.Exp.single at p names a v) h Γ g X U e =
+    let w = single-good cat Γ X U at p names a v e in
+    rw (← pick-same p (w .s) U (w .rule))
+    (well-typed cat r v (h .1) (opened (w .tabs) ∷ Γ) (tables-rule cat names (w .tabs) r (w .there), g) (w .z) (w .s) (w .value))
 well-typed cat r (ast.Exp.col at name q) h Γ g X U e = go (col-good cat Γ X U at name q e)
   where
     go : ColGood (find name q 0 Γ) X U → inRule U ≡ true
@@ -182,6 +189,12 @@ catalogue-rule c tables e =
     tables-all (catalogueOf c) (λ j t f.
     columns-all (t .cols) (λ i k g. column-in-rule c k (column-stands c tables a t (table-stands c tables a j t f) i k g)))
 
+-- a COUNT that was read has 1 to 9 digits
+fold-ruled : (v : List ℕ) (at a : ℕ) (f : Fold) → nodeAt v at ≡ Exists a f → inRule (foldType f) ≡ true
+unfolding inRule foldType
+fold-ruled v at a fold.Any e = refl
+fold-ruled v at a (fold.Count p) e = let (h, k) = exists-digits v at (sym e) refl in digits-in-rule p 0 h k (omega arith) (omega arith)
+
 -- the constants of a value that was read are of their types
 pub value-consts : (v : List ℕ) → ((i : ℕ) → getD v i 0 < 256) → (n d at : ℕ) {e : Exp} {k : ℕ} → parseValue v n d at ≡ ok e k → ConstsOk e
 unfolding ConstsOk
@@ -194,5 +207,5 @@ value-consts v h n =
     (λ d at op a b m k z l g p q. (p, q))
     (λ d at name a b m k z l g p q. (p, q))
     (λ d at c a b m j k z l g p q r. (p, q, r))
-    (λ d at a w k z l g f p. p)
-    (λ d at a w e m k z l g f p q. (p, q))
+    (λ d at a f w k z l g i p. (fold-ruled v at a f g, p))
+    (λ d at a f w e m k z l g i p q. (p, q))

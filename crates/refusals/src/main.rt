@@ -31,7 +31,7 @@ fn of_view(cat: &[u8], view: &[u8], k: u16) -> Found {
                 let f = resolve::Files { nc, tables, n, k };
                 match resolve::whole(cat, &starts, view, f) {
                     resolve::Verdict::Refused(number, place) => Found { number, place },
-                    resolve::Verdict::Fine => Found {
+                    resolve::Verdict::Fine(_) => Found {
                         number: 0,
                         place: 0,
                     },

@@ -15,11 +15,14 @@ use Rattle.cell.specs.declared.Value.{Value}
 use Rattle.catalogue.specs.Tables.{Table, TabRef}
 use Rattle.view.specs.Ast.{TabName, Exp, Parsed, ok}
 use Rattle.view.specs.Ast as ast
+use Rattle.view.specs.declared.Fold.{Fold}
+use Rattle.view.specs.declared.Pick.{Pick}
 use Rattle.view.proofs.Read.{One, Two, Three}
 use Rattle.scope.specs.Scopes.{Open, local, Hit, column, bound, Only, none, one, more, find}
 use Rattle.scope.specs.Table.{foundOf}
 use Rattle.scope.specs.Blocks.{all, missing, tablesNamed, opened}
 use Rattle.resolve.specs.Expr.{Expr}
+use Rattle.resolve.specs.Totals.{foldType, pickType}
 use Rattle.resolve.specs.Resolve.{Out, good, bad, then, colOut, classOut, onTabs, ruled, needBool, brought, resolve}
 use Rattle.resolve.specs.Typed.{knownOf, typedAt, typedBy}
 use Rattle.resolve.specs.Steps.{leafK, broughtK, ifK, letK, ruledT, boolT, twoT, notT, ifT, existsT, singleT, colT, classT}
@@ -132,28 +135,28 @@ module _ (k : ℕ) (cat : List Table) (Γ : List Open) (is : List Info) (p : ℕ
 
   -- blocks, where the tables are there; and where one is missing. The where stands at m
   module _ (m : ℕ) (names : List TabName) where
-    pub exists-step : (ts : List TabRef) → One p m P (ast.Exp.exists at names) → tablesNamed cat names ≡ all ts
-        → typedBy k cat Γ is P ≡ thenT (typedBy k cat (opened ts ∷ Γ) (Fixed 0 ∷ is) (p m)) (existsT at ts)
+    pub exists-step : (f : Fold) (ts : List TabRef) → One p m P (ast.Exp.exists at f names) → tablesNamed cat names ≡ all ts
+        → typedBy k cat Γ is P ≡ thenT (typedBy k cat (opened ts ∷ Γ) (Fixed 0 ∷ is) (p m)) (existsT at f ts)
     unfolding typedBy resolve onTabs existsT
-    exists-step ts h e =
+    exists-step f ts h e =
         rw (h .whole, h .first, e)
         (then-typed k is (h .end) (Fixed 0 ∷ is) (h .end) (resolve cat (opened ts ∷ Γ) (h .x)) _ _ (λ x t.
-        bool-typed k is (h .end) at t _ ∙ ap (boolT at t) (good-typed k is (h .end) _ T.Boolean _ (exists-known k is (h .end) ts x t)) ∙ (unfold knownOf in refl)))
+        bool-typed k is (h .end) at t _ ∙ ap (boolT at t) (good-typed k is (h .end) _ (foldType f) _ (exists-known k is (h .end) f ts x t)) ∙ (unfold knownOf in refl)))
 
-    pub exists-missing : (q : ℕ) → One p m P (ast.Exp.exists at names) → tablesNamed cat names ≡ missing q → typedBy k cat Γ is P ≡ typed.Refused 6 q
+    pub exists-missing : (f : Fold) (q : ℕ) → One p m P (ast.Exp.exists at f names) → tablesNamed cat names ≡ missing q → typedBy k cat Γ is P ≡ typed.Refused 6 q
     unfolding typedBy resolve onTabs typedAt
-    exists-missing q h e = rw (h .whole, e)
+    exists-missing f q h e = rw (h .whole, e)
 
-    pub single-step : (ts : List TabRef) → Two p m P (ast.Exp.single at names) → tablesNamed cat names ≡ all ts
-        → typedBy k cat Γ is P ≡ thenT (typedBy k cat (opened ts ∷ Γ) (Fixed 0 ∷ is) (p m)) (λ x. thenT (typedBy k cat (opened ts ∷ Γ) (Fixed 0 ∷ is) (p (x .next))) (singleT at ts x))
+    pub single-step : (g : Pick) (ts : List TabRef) → Two p m P (ast.Exp.single at g names) → tablesNamed cat names ≡ all ts
+        → typedBy k cat Γ is P ≡ thenT (typedBy k cat (opened ts ∷ Γ) (Fixed 0 ∷ is) (p m)) (λ x. thenT (typedBy k cat (opened ts ∷ Γ) (Fixed 0 ∷ is) (p (x .next))) (singleT at g ts x))
     unfolding typedBy resolve onTabs singleT knownOf
-    single-step ts h e =
+    single-step g ts h e =
         rw (h .whole, h .first, e)
         (then-typed k is (h .end) (Fixed 0 ∷ is) (h .mid) (resolve cat (opened ts ∷ Γ) (h .x)) _ _ (λ x s.
         rw (h .second)
         (then-typed k is (h .end) (Fixed 0 ∷ is) (h .end) (resolve cat (opened ts ∷ Γ) (h .y)) _ _ (λ y t.
-        bool-typed k is (h .end) at s _ ∙ ap (boolT at s) (good-typed k is (h .end) _ t _ (single-known k is (h .mid) (h .end) ts x y s t))))))
+        bool-typed k is (h .end) at s _ ∙ ap (boolT at s) (ruled-typed k is (h .end) at (pickType g t) _ _ (λ u. good-typed k is (h .end) _ u _ (single-known k is (h .mid) (h .end) g ts x y s t u)))))))
 
-    pub single-missing : (q : ℕ) → Two p m P (ast.Exp.single at names) → tablesNamed cat names ≡ missing q → typedBy k cat Γ is P ≡ typed.Refused 6 q
+    pub single-missing : (g : Pick) (q : ℕ) → Two p m P (ast.Exp.single at g names) → tablesNamed cat names ≡ missing q → typedBy k cat Γ is P ≡ typed.Refused 6 q
     unfolding typedBy resolve onTabs typedAt
-    single-missing q h e = rw (h .whole, e)
+    single-missing g q h e = rw (h .whole, e)

@@ -2,10 +2,10 @@
 -- Assumes nothing.
 use Prim.Native.Nat.{ℕ}
 use mathlib.Core.Path.{_≡_, refl, sym, ap, _∙_}
-use mathlib.Core.Bool.{Bool, true, false, cond}
+use mathlib.Core.Bool.{Bool, true, false, cond, _&&_}
 use mathlib.Core.List.{List, [], _∷_}
 use native.Mathlib.Omega.{arith}
-use lib.Dec.{eqb}
+use lib.Dec.{eqb, leb}
 use borrow.Author.Tests.{eqb-true}
 use Rattle.class.specs.declared.Info.{Info}
 use Rattle.cell.specs.Res.{Res, stuck, done}
@@ -16,10 +16,14 @@ use Rattle.cell.specs.declared.Value.{Value}
 use Rattle.catalogue.specs.Tables.{Table, Column, TabRef}
 use Rattle.view.specs.Ast.{TabName, Exp, Block, Parsed, ok}
 use Rattle.view.specs.Ast as ast
+use Rattle.view.specs.declared.Fold.{Fold}
+use Rattle.view.specs.declared.Pick.{Pick}
+use Rattle.view.specs.declared.Pick.the-variants as pick
 use Rattle.scope.specs.Scopes.{Open, local, Hit, column, bound, Only, none, one, more, find}
 use Rattle.scope.specs.Blocks.{Tabs, all, missing, tablesNamed, opened}
 use Rattle.resolve.specs.Expr.{Expr, Select}
 use Rattle.resolve.specs.Expr as expr
+use Rattle.resolve.specs.Totals.{foldType, orderedType, pickType}
 use Rattle.resolve.specs.Resolve.{Out, good, bad, then, colOut, classOut, onTabs, ruled, needBool, brought, resolve, Outs, goods, bads, alsoOut, resolveAll, select, refused as denied, withValues, withTest, withTabs, resolveView}
 use Rattle.resolve.specs.Typed.{knownOf, typedAt, typedBy}
 use Rattle.resolve.specs.declared.Known.{Known}
@@ -66,6 +70,21 @@ pub ruled-good : (at : ℕ) (r : Res Ty) (f : Ty → Out) (x : Expr) (t : Ty) �
 unfolding ruled
 ruled-good at stuck f x t e = bad-good e
 ruled-good at (done u) f x t e = record { u = u; rule = refl; rest = e }
+
+-- VALUE, MAX and MIN give their value's type.
+ordered-same : (s t : Ty) → orderedType s ≡ done t → s ≡ t
+unfolding orderedType
+ordered-same s t = go (leb 2 (kindOf s) && leb (kindOf s) 4)
+  where
+    go : (b : Bool) → cond b (done s) stuck ≡ done t → s ≡ t
+    go true e = cc
+    go false e = absurd (let z : _≡_ {A = ℕ} 0 1 = cc in omega arith)
+
+pub pick-same : (g : Pick) (s t : Ty) → pickType g s ≡ done t → s ≡ t
+unfolding pickType
+pick-same pick.Only s t e = cc
+pick-same pick.Greatest s t e = ordered-same s t e
+pick-same pick.Least s t e = ordered-same s t e
 
 is-boolean : (t : Ty) → kindOf t ≡ 1 → t ≡ T.Boolean
 unfolding kindOf
@@ -176,17 +195,17 @@ module _ (cat : List Table) (Γ : List Open) (x : Expr) (t : Ty) where
         is = good-expr (m .rest) ∙ ap (λ (v : Ty). expr.Expr.if (a .y) (brought (b .s) v (b .y)) (brought (d .s) v (d .y))) (good-type (m .rest));
       }
 
-  pub record ExistsGood (names : List TabName) (e : Exp) : Type 0 where
+  pub record ExistsGood (q : Fold) (names : List TabName) (e : Exp) : Type 0 where
     pub tabs : List TabRef
     pub y : Expr
     pub there : tablesNamed cat names ≡ all tabs
     pub test : resolve cat (opened tabs ∷ Γ) e ≡ good y T.Boolean
-    pub is : x ≡ expr.Expr.exists tabs y
-    pub type-is : t ≡ T.Boolean
+    pub is : x ≡ expr.Expr.exists q tabs y
+    pub type-is : t ≡ foldType q
 
-  pub exists-good : (at : ℕ) (names : List TabName) (e : Exp) → resolve cat Γ (ast.Exp.exists at names e) ≡ good x t → ExistsGood names e
+  pub exists-good : (at : ℕ) (q : Fold) (names : List TabName) (e : Exp) → resolve cat Γ (ast.Exp.exists at q names e) ≡ good x t → ExistsGood q names e
   unfolding resolve
-  exists-good at names e h =
+  exists-good at q names e h =
       let a = tabs-good (tablesNamed cat names) _ x t h in
       let b = then-good (resolve cat (opened (a .tabs) ∷ Γ) e) _ x t (a .rest) in
       let c = bool-good at (b .s) _ x t (b .rest) in
@@ -199,30 +218,35 @@ module _ (cat : List Table) (Γ : List Open) (x : Expr) (t : Ty) where
         type-is = sym (good-type (c .rest));
       }
 
-  pub record SingleGood (names : List TabName) (e v : Exp) : Type 0 where
+  pub record SingleGood (q : Pick) (names : List TabName) (e v : Exp) : Type 0 where
     pub tabs : List TabRef
     pub y : Expr
     pub z : Expr
+    pub s : Ty
     pub there : tablesNamed cat names ≡ all tabs
     pub test : resolve cat (opened tabs ∷ Γ) e ≡ good y T.Boolean
-    pub value : resolve cat (opened tabs ∷ Γ) v ≡ good z t
-    pub is : x ≡ expr.Expr.single tabs y z
+    pub value : resolve cat (opened tabs ∷ Γ) v ≡ good z s
+    pub rule : pickType q s ≡ done t
+    pub is : x ≡ expr.Expr.single q tabs y z
 
-  pub single-good : (at : ℕ) (names : List TabName) (e v : Exp) → resolve cat Γ (ast.Exp.single at names e v) ≡ good x t → SingleGood names e v
+  pub single-good : (at : ℕ) (q : Pick) (names : List TabName) (e v : Exp) → resolve cat Γ (ast.Exp.single at q names e v) ≡ good x t → SingleGood q names e v
   unfolding resolve
-  single-good at names e v h =
+  single-good at q names e v h =
       let a = tabs-good (tablesNamed cat names) _ x t h in
       let b = then-good (resolve cat (opened (a .tabs) ∷ Γ) e) _ x t (a .rest) in
       let c = then-good (resolve cat (opened (a .tabs) ∷ Γ) v) _ x t (b .rest) in
       let d = bool-good at (b .s) _ x t (c .rest) in
+      let g = ruled-good at (pickType q (c .s)) _ x t (d .rest) in
       record {
         tabs = a .tabs;
         y = b .y;
         z = c .y;
+        s = c .s;
         there = a .there;
         test = b .first ∙ ap (good (b .y)) (d .boolean);
-        value = c .first ∙ ap (good (c .y)) (good-type (d .rest));
-        is = good-expr (d .rest);
+        value = c .first;
+        rule = g .rule ∙ ap done (good-type (g .rest));
+        is = good-expr (g .rest);
       }
 
   pub record LetGood (name : ℕ) (v b : Exp) : Type 0 where

@@ -125,12 +125,12 @@ module _ (t : Ty) (x : Known) (w : Weighed) (r : Known) (b : Bool) (e : b ≡ sa
   brought-other a g j h = rw (← e, g) (h ∙ known-alike t (x .next) a (1 + x .values) w (classOf x) (omega arith) (rw f (alike-refl _)))
 
 -- THE ANSWERS.
-judged-is : (r : Res Ty) (u : Ty) → judgedOf r ≡ J.Is u → r ≡ done u
+pub judged-is : (r : Res Ty) (u : Ty) → judgedOf r ≡ J.Is u → r ≡ done u
 unfolding judgedOf
 judged-is stuck u e = absurd (let z : _≡_ {A = ℕ} 0 1 = cc in omega arith)
 judged-is (done t) u e = let h : t ≡ u = cc in ap done h
 
-judged-broken : (r : Res Ty) → judgedOf r ≡ J.Broken → r ≡ stuck
+pub judged-broken : (r : Res Ty) → judgedOf r ≡ J.Broken → r ≡ stuck
 unfolding judgedOf
 judged-broken stuck e = refl
 judged-broken (done t) e = absurd (let z : _≡_ {A = ℕ} 0 1 = cc in omega arith)

@@ -1,36 +1,44 @@
--- A level of the walk: the place of its table where a scope opens holds what no open scope reads, until LET fills it.
+-- A level of the walk: its table u is the caller's table t with the entry s at a place p, and so is what it hands to its parts.
 -- Assumes nothing.
 use Prim.Native.Nat.{ℕ, zero, suc}
-use mathlib.Core.Path.{_≡_, refl, ap, _∙_}
+use mathlib.Core.Path.{_≡_, refl, sym, ap, subst, _∙_}
 use mathlib.Core.List.{List, [], _∷_}
-use native.Mathlib.Omega.{arith}
-use lib.ListN.{set, length-set}
-use Rattle.scope.specs.Scopes.{find}
-use Rattle.scope.specs.Table.{scopesOf, infosOf, foundOf}
+use lib.ListN.{set, getD}
 use Rattle.scope.specs.declared.Scope.{Scope}
-use Rattle.scope.specs.declared.Found.{Found}
-use Rattle.scope.proofs.Pushes.{scopes-set, infos-set}
 use Rattle.resolve.specs.Claims.{Ready, answerAt}
 use Rattle.resolve.specs.declared.Files.{Files}
 use Rattle.resolve.specs.declared.Typed.{Typed}
 
--- the place is filled once more
-pub set-over : (t : List Scope) (k : ℕ) (s r : Scope) → set (set t k s) k r ≡ set t k r
-set-over [] k s r = refl
-set-over (x ∷ xs) zero s r = refl
-set-over (x ∷ xs) (suc k) s r = ap (λ (l : List Scope). x ∷ l) (set-over xs k s r)
+-- a place is filled once more; the first is filled with what it holds
+set-over : (t : List Scope) (p : ℕ) (s : Scope) → set (set t p s) p s ≡ set t p s
+set-over [] p s = refl
+set-over (x ∷ xs) zero s = refl
+set-over (x ∷ xs) (suc p) s = ap (λ (l : List Scope). x ∷ l) (set-over xs p s)
 
--- the open scopes are as they were
-pub ready-beside : (c ss v : List ℕ) (f : Files) (t : List Scope) (deep : ℕ) (s : Scope) (d m : ℕ)
-    → Ready c ss v f t deep d m → Ready c ss v f (set t deep s) deep d m
-ready-beside c ss v f t deep s d m w =
-    record { lent = w .lent; sized = length-set t deep s ∙ w .sized; not-many = w .not-many; is-read = w .is-read; here = w .here; left = w .left }
+set-own : (t : List Scope) (s d : Scope) → s ≡ getD t 0 d → set t 0 s ≡ t
+set-own [] s d e = refl
+set-own (x ∷ xs) s d e = rw e
 
-pub answer-beside : (c v : List ℕ) (f : Files) (t : List Scope) (deep : ℕ) (s : Scope) (d m : ℕ) (r : Typed)
-    → r ≡ answerAt c v f (set t deep s) deep d m → r ≡ answerAt c v f t deep d m
-answer-beside c v f t deep s d m r e = e ∙ rw (scopes-set c (f .nc) t deep deep s (omega arith), infos-set t deep deep s (omega arith))
+module _ (c v : List ℕ) (f : Files) (t : List Scope) (p : ℕ) (s : Scope) (u : List Scope) (e : u ≡ set t p s) (deep d m : ℕ) where
+  still : set u p s ≡ u
+  still = rw (e, set-over t p s)
 
-pub found-beside : (c : List ℕ) (n : ℕ) (t : List Scope) (deep : ℕ) (s : Scope) (name q : ℕ) (h : Found)
-    → h ≡ foundOf (infosOf (set t deep s) deep) (find name q 0 (scopesOf c n (set t deep s) deep))
-    → h ≡ foundOf (infosOf t deep) (find name q 0 (scopesOf c n t deep))
-found-beside c n t deep s name q h e = e ∙ rw (scopes-set c n t deep deep s (omega arith), infos-set t deep deep s (omega arith))
+  pub ready-made : (ss : List ℕ) → Ready c ss v f (set t p s) deep d m → Ready c ss v f u deep d m
+  ready-made ss w = subst (λ (l : List Scope). Ready c ss v f l deep d m) (sym e) w
+
+  pub ready-again : (ss : List ℕ) → Ready c ss v f u deep d m → Ready c ss v f (set u p s) deep d m
+  ready-again ss w = subst (λ (l : List Scope). Ready c ss v f l deep d m) (sym still) w
+
+  pub answer-made : (r : Typed) → r ≡ answerAt c v f u deep d m → r ≡ answerAt c v f (set t p s) deep d m
+  answer-made r g = subst (λ (l : List Scope). r ≡ answerAt c v f l deep d m) e g
+
+  pub answer-again : (r : Typed) → r ≡ answerAt c v f (set u p s) deep d m → r ≡ answerAt c v f u deep d m
+  answer-again r g = subst (λ (l : List Scope). r ≡ answerAt c v f l deep d m) still g
+
+-- a whole table is one whose first entry stands at the first place
+module _ (c v : List ℕ) (f : Files) (t : List Scope) (s z : Scope) (e : s ≡ getD t 0 z) (deep d m : ℕ) where
+  pub ready-whole : (ss : List ℕ) → Ready c ss v f t deep d m → Ready c ss v f (set t 0 s) deep d m
+  ready-whole ss w = subst (λ (l : List Scope). Ready c ss v f l deep d m) (sym (set-own t s z e)) w
+
+  pub answer-whole : (r : Typed) → r ≡ answerAt c v f (set t 0 s) deep d m → r ≡ answerAt c v f t deep d m
+  answer-whole r g = subst (λ (l : List Scope). r ≡ answerAt c v f l deep d m) (set-own t s z e) g

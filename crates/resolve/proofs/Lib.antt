@@ -5,6 +5,7 @@ pub mod Weights
 pub mod Leaves
 pub mod Levels
 pub mod Tables
+pub mod Folding
 pub mod Equations
 pub mod Turns
 pub mod Scoped

@@ -9,6 +9,7 @@ use Rattle.word.specs.Header.{drq, drc, headed, header, countAt}
 use Rattle.word.specs.Record.{recAt, recBytes}
 use Rattle.class.specs.Class.{level, mark, lubOf}
 use Rattle.class.specs.Info.{infoBy, boundOf, joinI, joinsI, sameI, choiceI}
+use Rattle.class.specs.declared.Info.{Info}
 use Rattle.class.specs.declared.Info.the-variants.{Fixed, Bound}
 use Rattle.cell.specs.Types.{digitsRule, typeBy, kindOf, digitsOf, scaleOf, formatOf, widerOf, sumType, productType, logicType, orderType, equalType, binopType, sameType, limbType}
 use Rattle.cell.specs.declared.Type.the-variants as T
@@ -18,9 +19,10 @@ use Rattle.view.specs.Record.{constOf, nodeOf, nodeAt, slotOf}
 use Rattle.view.specs.Parse.{enterNode, enter, many, nameOf, parseTable, parseBlock, parseNode, parseValue, rootNode, parseRoot, parseView}
 use Rattle.scope.specs.Scopes.{block, onlyOf, inCols, inTable, inTabs, inScope, nearest, find}
 use Rattle.scope.specs.Blocks.{before, foundAt, tablesNamed}
+use Rattle.resolve.specs.Totals.{foldType, orderedType, pickType}
 use Rattle.resolve.specs.Resolve.{then, colOut, classOut, onTabs, ruled, needBool, brought, resolve, alsoOut, resolveAll, withValues, withTest, withTabs, resolveView}
 use Rattle.resolve.specs.Infos.{joinAllI, blockI, classInfo}
-use Rattle.resolve.specs.Sizes.{sizeD, sizedI, joinW, joinsW, joinAllW, choiceW, bindSize, letW, rowsW, blockW, weigh}
+use Rattle.resolve.specs.Sizes.{sizeD, sizedI, joinW, joinsW, joinAllW, choiceW, bindSize, letW, rowsW, blockW, weigh, pairsSize, sumsOf}
 use Rattle.resolve.specs.Typed.{knownOf, typedAt, typedBy}
 use Rattle.resolve.specs.Claims.{resolvedBy, verdictOf}
 use Rattle.resolve.specs.declared.Typed.{Typed}
@@ -94,36 +96,52 @@ views =
     ∷ one (recBytes 11 0 1 0 0 ∷ table 8 ∷ col 21 ∷ col 22 ∷ [])
     ∷ one (recBytes 11 0 1 0 0 ∷ table 8 ∷ col 22 ∷ col 99 ∷ [])
     ∷ one (recBytes 11 0 1 0 0 ∷ table 8 ∷ col 22 ∷ col 20 ∷ [])
+    ∷ one (recBytes 28 64 1 0 0 ∷ table 8 ∷ col 21 ∷ [])
+    ∷ one (recBytes 28 64 1 0 0 ∷ table 8 ∷ col 22 ∷ [])
+    ∷ one (recBytes 29 0 1 0 0 ∷ table 7 ∷ col 21 ∷ col 20 ∷ [])
+    ∷ one (recBytes 29 0 1 0 0 ∷ table 8 ∷ col 21 ∷ col 22 ∷ [])
+    ∷ one (recBytes 30 0 1 0 0 ∷ table 8 ∷ col 21 ∷ col 21 ∷ [])
+    ∷ one (recBytes 30 0 1 0 0 ∷ table 8 ∷ col 21 ∷ recBytes 1 0 0 0 0 ∷ [])
     ∷ []
 
-judged : List ℕ → Verdict
-judged v = verdictOf (resolvedBy (catalogueOf catalogue) (parseView v))
+-- the where is one record, with one for its class
+fine : Info → ℕ → Verdict
+fine i pairs = Fine (record { info = i; values = 1; classes = 1; pairs = pairs })
 
--- THE TABLE
+judged : List ℕ → Verdict
+judged v = verdictOf 3 (resolvedBy (catalogueOf catalogue) (parseView v))
+
+-- THE TABLE, where the view's constants are of class 3
 worked-views : map judged views ≡
-    Fine
+    fine (Bound 8193) 4
     ∷ Refused 6 1
     ∷ Refused 6 4
     ∷ Refused 7 3
     ∷ Refused 8 4
-    ∷ Fine
+    ∷ fine (Bound 8193) 2
     ∷ Refused 7 3
     ∷ Refused 9 0
     ∷ Refused 7 3
     ∷ Refused 9 3
     ∷ Refused 7 5
-    ∷ Fine
+    ∷ fine (Fixed 3) 11
     ∷ Refused 9 3
     ∷ Refused 9 3
     ∷ Refused 9 3
-    ∷ Fine
+    ∷ fine (Fixed 3) 4
     ∷ Refused 7 4
     ∷ Refused 7 5
-    ∷ Fine
+    ∷ fine (Fixed 3) 9
     ∷ Refused 7 6
     ∷ Refused 9 3
+    ∷ fine (Fixed 3) 8
+    ∷ Refused 9 3
+    ∷ fine (Fixed 3) 13
+    ∷ Refused 9 3
+    ∷ Refused 9 3
+    ∷ Refused 9 3
     ∷ []
-unfolding bytes catalogue view select table col of classof yes-record op letin one views judged signed32 le16 headed header recAt recBytes infoBy digitsRule typeBy kindOf digitsOf scaleOf formatOf widerOf sumType productType logicType orderType equalType binopType sameType limbType columnAt colsFrom tableAt tablesFrom catalogueOf later tableNamed andThen firstOf constOf nodeOf nodeAt slotOf enterNode enter many nameOf parseTable parseBlock parseNode parseValue rootNode parseRoot parseView onlyOf inCols inTable inTabs inScope nearest find before foundAt tablesNamed then colOut classOut onTabs ruled needBool brought resolve alsoOut resolveAll withValues withTest withTabs resolveView resolvedBy verdictOf
+unfolding bytes catalogue view select table col of classof yes-record op letin one views judged signed32 le16 headed header recAt recBytes infoBy digitsRule typeBy kindOf digitsOf scaleOf formatOf widerOf sumType productType logicType orderType equalType binopType sameType limbType columnAt colsFrom tableAt tablesFrom catalogueOf later tableNamed andThen firstOf constOf nodeOf nodeAt slotOf enterNode enter many nameOf parseTable parseBlock parseNode parseValue rootNode parseRoot parseView onlyOf inCols inTable inTabs inScope nearest find before foundAt tablesNamed then colOut classOut onTabs ruled needBool brought foldType orderedType pickType resolve alsoOut resolveAll withValues withTest withTabs resolveView resolvedBy fine joinI joinsI sameI choiceI boundOf classInfo sizeD sizedI joinW joinsW joinAllW choiceW bindSize letW rowsW blockW weigh pairsSize sumsOf verdictOf
 worked-views = refl
 
 -- WHAT IS KNOWN of a few values over a row of table 7, where the view's constants are of class 1
@@ -135,6 +153,8 @@ values =
     ∷ one (letin 30 ∷ col 20 ∷ col 21 ∷ [])
     ∷ one (recBytes 10 0 1 0 0 ∷ table 8 ∷ col 21 ∷ [])
     ∷ one (recBytes 11 0 1 0 0 ∷ table 8 ∷ col 21 ∷ col 22 ∷ [])
+    ∷ one (recBytes 28 64 1 0 0 ∷ table 8 ∷ col 21 ∷ [])
+    ∷ one (recBytes 29 0 1 0 0 ∷ table 8 ∷ col 21 ∷ of 7 20 ∷ [])
     ∷ []
 
 known : List ℕ → Typed
@@ -147,6 +167,8 @@ worked-values : map known values ≡
     ∷ Is (record { ty = T.Boolean; info = Bound 8193; next = 6; values = 3; classes = 3 })
     ∷ Is (record { ty = T.Boolean; info = Bound 1; next = 6; values = 3; classes = 5 })
     ∷ Is (record { ty = T.Class; info = Bound 1; next = 7; values = 4; classes = 5 })
+    ∷ Is (record { ty = T.Fixed 4 0; info = Bound 1; next = 6; values = 3; classes = 5 })
+    ∷ Is (record { ty = T.Fixed 4 2; info = Bound 1; next = 7; values = 4; classes = 5 })
     ∷ []
-unfolding bytes catalogue view select table col of classof yes-record op letin one values known signed32 le16 headed header recAt recBytes level mark lubOf infoBy boundOf joinI joinsI sameI choiceI digitsRule typeBy kindOf digitsOf scaleOf formatOf widerOf equalType binopType sameType limbType columnAt colsFrom tableAt tablesFrom catalogueOf later tableNamed andThen firstOf constOf nodeOf nodeAt slotOf enterNode enter many nameOf parseTable parseBlock parseNode parseValue onlyOf inCols inTable inTabs inScope nearest find before foundAt tablesNamed then colOut classOut onTabs ruled needBool brought resolve joinAllI blockI classInfo sizeD sizedI joinW joinsW joinAllW choiceW bindSize letW rowsW blockW weigh knownOf typedAt typedBy
+unfolding bytes catalogue view select table col of classof yes-record op letin one values known signed32 le16 headed header recAt recBytes level mark lubOf infoBy boundOf joinI joinsI sameI choiceI digitsRule typeBy kindOf digitsOf scaleOf formatOf widerOf equalType binopType sameType limbType columnAt colsFrom tableAt tablesFrom catalogueOf later tableNamed andThen firstOf constOf nodeOf nodeAt slotOf enterNode enter many nameOf parseTable parseBlock parseNode parseValue onlyOf inCols inTable inTabs inScope nearest find before foundAt tablesNamed then colOut classOut onTabs ruled needBool brought foldType orderedType pickType resolve joinAllI blockI classInfo sizeD sizedI joinW joinsW joinAllW choiceW bindSize letW rowsW blockW weigh knownOf typedAt typedBy
 worked-values = refl

@@ -12,6 +12,8 @@ use Rattle.view.specs.Ast.{Exp, WasRead}
 use Rattle.view.specs.Ast as ast
 use Rattle.view.specs.Record.{nodeAt}
 use Rattle.view.specs.Parse.{namesAt, parseValue}
+use Rattle.view.specs.declared.Fold.{Fold}
+use Rattle.view.specs.declared.Pick.{Pick}
 use Rattle.view.specs.declared.Node.{Node}
 use Rattle.view.specs.declared.Node.the-variants.{Exists, Single, Let}
 use Rattle.view.proofs.Read as read
@@ -28,6 +30,8 @@ use Rattle.scope.proofs.Named.{BlockOpened, block-missing, block-opened, names-
 use Rattle.resolve.specs.Typed.{typedBy}
 use Rattle.resolve.specs.Steps.{letK, refsTo, existsT, singleT}
 use Rattle.resolve.specs.Claims.{Ready, Opening, answerAt, blockNode}
+use Rattle.resolve.specs.declared.Asked.{Asked}
+use Rattle.resolve.specs.declared.Asked.the-variants as ask
 use Rattle.resolve.specs.declared.Files.{Files}
 use Rattle.resolve.specs.declared.Known.{Known}
 use Rattle.resolve.specs.declared.Typed.{Typed}
@@ -45,13 +49,13 @@ not-false true e = refl
 not-false false e = sym e
 
 -- the node of a block, as the walk has found it
-pub exists-node : (v : List ℕ) (at a : ℕ) (nd : Node) → nd ≡ nodeAt v at → nd ≡ Exists a → nodeAt v at ≡ blockNode false a
+pub exists-node : (v : List ℕ) (at a : ℕ) (q : Fold) (nd : Node) → nd ≡ nodeAt v at → nd ≡ Exists a q → nodeAt v at ≡ blockNode (ask.Rows q) a
 unfolding blockNode
-exists-node v at a nd e g = sym e ∙ g
+exists-node v at a q nd e g = sym e ∙ g
 
-pub single-node : (v : List ℕ) (at a : ℕ) (nd : Node) → nd ≡ nodeAt v at → nd ≡ Single a → nodeAt v at ≡ blockNode true a
+pub single-node : (v : List ℕ) (at a : ℕ) (q : Pick) (nd : Node) → nd ≡ nodeAt v at → nd ≡ Single a q → nodeAt v at ≡ blockNode (ask.Values q) a
 unfolding blockNode
-single-node v at a nd e g = sym e ∙ g
+single-node v at a q nd e g = sym e ∙ g
 
 module _ (c ss v : List ℕ) (f : Files) where
   abbrev cat : List Table
@@ -106,69 +110,69 @@ module _ (c ss v : List ℕ) (f : Files) where
           let-done y z j m = ap typed.Is m ∙ sym (body-whole ∙ then-is _ y _ (sym h ∙ j))
 
   -- a block's node
-  module _ (t : List Scope) (deep d at : ℕ) (w : Ready c ss v f t deep d at) (single : Bool) (count : ℕ) (g : nodeAt v at ≡ blockNode single count) where
-    exists-here : single ≡ false → nodeAt v at ≡ Exists count
+  module _ (t : List Scope) (deep d at : ℕ) (w : Ready c ss v f t deep d at) (asked : Asked) (count : ℕ) (g : nodeAt v at ≡ blockNode asked count) where
+    exists-here : (q : Fold) → asked ≡ ask.Rows q → nodeAt v at ≡ Exists count q
     unfolding blockNode
-    exists-here e = g ∙ rw e
+    exists-here q e = g ∙ rw e
 
-    single-here : single ≡ true → nodeAt v at ≡ Single count
+    single-here : (q : Pick) → asked ≡ ask.Values q → nodeAt v at ≡ Single count q
     unfolding blockNode
-    single-here e = g ∙ rw e
+    single-here q e = g ∙ rw e
 
-    few : (b : Bool) → single ≡ b → (1 ≤ count) × (count ≤ 4)
-    few false e = exists-few v at refl (exists-here e)
-    few true e = single-few v at refl (single-here e)
+    few : (b : Asked) → asked ≡ b → (1 ≤ count) × (count ≤ 4)
+    few (ask.Rows q) e = exists-few v at refl (exists-here q e)
+    few (ask.Values q) e = single-few v at refl (single-here q e)
 
-    listed : (b : Bool) → single ≡ b → Listed v (f .n) (at + 1) count
-    listed false e = read.exists-listed v (f .n) d at (w .is-read) refl (exists-here e)
-    listed true e = read.single-listed v (f .n) d at (w .is-read) refl (single-here e)
+    listed : (b : Asked) → asked ≡ b → Listed v (f .n) (at + 1) count
+    listed (ask.Rows q) e = read.exists-listed v (f .n) d at (w .is-read) refl (exists-here q e)
+    listed (ask.Values q) e = read.single-listed v (f .n) d at (w .is-read) refl (single-here q e)
 
-    where-read : (b : Bool) → single ≡ b → WasRead (parseValue v (f .n) (d - 1) (at + 1 + count))
-    where-read false e = was-read (read.exists-read v (f .n) d at (w .is-read) refl (exists-here e) .first)
-    where-read true e = was-read (read.single-read v (f .n) d at (w .is-read) refl (single-here e) .first)
+    where-read : (b : Asked) → asked ≡ b → WasRead (parseValue v (f .n) (d - 1) (at + 1 + count))
+    where-read (ask.Rows q) e = was-read (read.exists-read v (f .n) d at (w .is-read) refl (exists-here q e) .first)
+    where-read (ask.Values q) e = was-read (read.single-read v (f .n) d at (w .is-read) refl (single-here q e) .first)
 
     pub block-room : 8 + 8 * (at + 1 + count) ≤ length v
-    block-room = let h = listed single refl .within in omega arith
+    block-room = let h = listed asked refl .within in omega arith
 
     pub block-next : at + 1 + count ≤ 1024
-    block-next = let h = listed single refl .within in omega arith
+    block-next = let h = listed asked refl .within in omega arith
 
     pub block-few : count ≤ 4
-    block-few = few single refl .1
+    block-few = few asked refl .1
 
     abbrev tabs : Tabs
     tabs = tablesNamed (tablesFrom c (f .nc) (f .nc) 0) (namesAt v (at + 1) count)
 
-    exists-one : single ≡ false → One (parseValue v (f .n) (d - 1)) (at + 1 + count) (parseValue v (f .n) d at) (ast.Exp.exists at (namesAt v (at + 1) count))
-    exists-one e = read.exists-read v (f .n) d at (w .is-read) refl (exists-here e)
+    exists-one : (q : Fold) → asked ≡ ask.Rows q → One (parseValue v (f .n) (d - 1)) (at + 1 + count) (parseValue v (f .n) d at) (ast.Exp.exists at q (namesAt v (at + 1) count))
+    exists-one q e = read.exists-read v (f .n) d at (w .is-read) refl (exists-here q e)
 
-    single-two : single ≡ true → Two (parseValue v (f .n) (d - 1)) (at + 1 + count) (parseValue v (f .n) d at) (ast.Exp.single at (namesAt v (at + 1) count))
-    single-two e = read.single-read v (f .n) d at (w .is-read) refl (single-here e)
+    single-two : (q : Pick) → asked ≡ ask.Values q → Two (parseValue v (f .n) (d - 1)) (at + 1 + count) (parseValue v (f .n) d at) (ast.Exp.single at q (namesAt v (at + 1) count))
+    single-two q e = read.single-read v (f .n) d at (w .is-read) refl (single-here q e)
 
     module _ (o : Opened) (p : o ≡ openedBy ss (tablesNamed (tablesFrom c (f .nc) (f .nc) 0) (namesAt v (at + 1) count))) where
       pub block-6 : not (o .fine) ≡ true → typed.Refused 6 (o .place) ≡ answerAt c v f t deep d at
-      block-6 z = go single refl
+      block-6 z = go asked refl
         where
           gone : tabs ≡ missing (o .place)
           gone = block-missing ss tabs o p (not-true (o .fine) z)
 
-          go : (b : Bool) → single ≡ b → typed.Refused 6 (o .place) ≡ answerAt c v f t deep d at
-          go false e = sym (exists-missing (f .k) cat _ _ _ at _ (at + 1 + count) _ (o .place) (exists-one e) gone)
-          go true e = sym (single-missing (f .k) cat _ _ _ at _ (at + 1 + count) _ (o .place) (single-two e) gone)
+          go : (b : Asked) → asked ≡ b → typed.Refused 6 (o .place) ≡ answerAt c v f t deep d at
+          go (ask.Rows q) e = sym (exists-missing (f .k) cat _ _ _ at _ (at + 1 + count) _ q (o .place) (exists-one q e) gone)
+          go (ask.Values q) e = sym (single-missing (f .k) cat _ _ _ at _ (at + 1 + count) _ q (o .place) (single-two q e) gone)
 
       module _ (z : not (o .fine) ≡ false) where
         there : BlockOpened c (f .nc) (tablesNamed (tablesFrom c (f .nc) (f .nc) 0) (namesAt v (at + 1) count)) (o .scope)
-        there = block-opened c (f .nc) (f .tables) ss v (at + 1) count o (w .lent .starts) (few single refl) p (not-false (o .fine) z)
+        there = block-opened c (f .nc) (f .tables) ss v (at + 1) count o (w .lent .starts) (few asked refl) p (not-false (o .fine) z)
 
         pub block-opening : Opening c (f .nc) (o .scope)
         block-opening =
             let h = names-length cat v (at + 1) count (refsOf tabs) (there .found) in
-            let k = few single refl .0 in
+            let k = few asked refl .0 in
             record { long = w .lent .cat-long; among = there .among; some = rw (there .counted, h) k }
 
         module _ (u : List Scope) (q : u ≡ set t deep (o .scope)) where
           pub where-ready : Ready c ss v f u (deep + 1) (d - 1) (at + 1 + count)
-          where-ready = inner t deep d at w (o .scope) u q (at + 1 + count) (where-read single refl)
+          where-ready = inner t deep d at w (o .scope) u q (at + 1 + count) (where-read asked refl)
 
           block-scopes : scopesOf c (f .nc) u (deep + 1) ≡ opened (refsOf tabs) ∷ scopesOf c (f .nc) t deep
           block-scopes = push.block-scopes c (f .nc) t u deep (o .scope) q (push-room t deep d at w) (w .sized) tabs there
@@ -180,41 +184,41 @@ module _ (c ss v : List ℕ) (f : Files) where
           unfolding tablesIn
           own-tables = ap tablesIn (there .opens)
 
-          exists-whole : single ≡ false → answerAt c v f t deep d at ≡ thenT (answerAt c v f u (deep + 1) (d - 1) (at + 1 + count)) (existsT at (refsOf tabs))
-          exists-whole e = exists-step (f .k) cat _ _ _ at _ (at + 1 + count) _ (refsOf tabs) (exists-one e) (there .found) ∙ rw (← block-scopes, ← block-infos)
+          exists-whole : (h : Fold) → asked ≡ ask.Rows h → answerAt c v f t deep d at ≡ thenT (answerAt c v f u (deep + 1) (d - 1) (at + 1 + count)) (existsT at h (refsOf tabs))
+          exists-whole h e = exists-step (f .k) cat _ _ _ at _ (at + 1 + count) _ h (refsOf tabs) (exists-one h e) (there .found) ∙ rw (← block-scopes, ← block-infos)
 
-          single-whole : single ≡ true
-              → answerAt c v f t deep d at ≡ thenT (answerAt c v f u (deep + 1) (d - 1) (at + 1 + count)) (λ x. thenT (answerAt c v f u (deep + 1) (d - 1) (x .next)) (singleT at (refsOf tabs) x))
-          single-whole e = single-step (f .k) cat _ _ _ at _ (at + 1 + count) _ (refsOf tabs) (single-two e) (there .found) ∙ rw (← block-scopes, ← block-infos)
+          single-whole : (h : Pick) → asked ≡ ask.Values h
+              → answerAt c v f t deep d at ≡ thenT (answerAt c v f u (deep + 1) (d - 1) (at + 1 + count)) (λ x. thenT (answerAt c v f u (deep + 1) (d - 1) (x .next)) (singleT at h (refsOf tabs) x))
+          single-whole h e = single-step (f .k) cat _ _ _ at _ (at + 1 + count) _ h (refsOf tabs) (single-two h e) (there .found) ∙ rw (← block-scopes, ← block-infos)
 
           module _ (l : Typed) (a : l ≡ answerAt c v f u (deep + 1) (d - 1) (at + 1 + count)) where
             pub where-refused : (i k : ℕ) → l ≡ typed.Refused i k → typed.Refused i k ≡ answerAt c v f t deep d at
-            where-refused i k b = go single refl
+            where-refused i k b = go asked refl
               where
-                go : (s : Bool) → single ≡ s → typed.Refused i k ≡ answerAt c v f t deep d at
-                go false e = sym (exists-whole e ∙ then-refused _ i k _ (sym a ∙ b))
-                go true e = sym (single-whole e ∙ then-refused _ i k _ (sym a ∙ b))
+                go : (s : Asked) → asked ≡ s → typed.Refused i k ≡ answerAt c v f t deep d at
+                go (ask.Rows h) e = sym (exists-whole h e ∙ then-refused _ i k _ (sym a ∙ b))
+                go (ask.Values h) e = sym (single-whole h e ∙ then-refused _ i k _ (sym a ∙ b))
 
             module _ (x : Known) (b : l ≡ typed.Is x) where
-              pub exists-done : (r : Typed) → single ≡ false → r ≡ existsT at (refsTo (tablesIn (openOf c (f .nc) (o .scope)))) x → r ≡ answerAt c v f t deep d at
-              exists-done r e h =
-                  h ∙ ap (λ (us : List Table). existsT at (refsTo us) x) own-tables ∙ sym (own-exists (refsOf tabs) at x)
-                  ∙ sym (exists-whole e ∙ then-is _ x _ (sym a ∙ b))
+              pub exists-done : (j : Fold) (r : Typed) → asked ≡ ask.Rows j → r ≡ existsT at j (refsTo (tablesIn (openOf c (f .nc) (o .scope)))) x → r ≡ answerAt c v f t deep d at
+              exists-done j r e h =
+                  h ∙ ap (λ (us : List Table). existsT at j (refsTo us) x) own-tables ∙ sym (own-exists (refsOf tabs) at j x)
+                  ∙ sym (exists-whole j e ∙ then-is _ x _ (sym a ∙ b))
 
-              module _ (e : single ≡ true) where
+              module _ (pick : Pick) (e : asked ≡ ask.Values pick) where
                 pub value-ready : Ready c ss v f u (deep + 1) (d - 1) (x .next)
                 value-ready =
                     inner t deep d at w (o .scope) u q (x .next)
-                    (rw (after (f .k) cat (scopesOf c (f .nc) u (deep + 1)) (infosOf u (deep + 1)) _ (single-two e .first) (sym a ∙ b)) at (was-read (single-two e .second)))
+                    (rw (after (f .k) cat (scopesOf c (f .nc) u (deep + 1)) (infosOf u (deep + 1)) _ (single-two pick e .first) (sym a ∙ b)) at (was-read (single-two pick e .second)))
 
-                value-whole : answerAt c v f t deep d at ≡ thenT (answerAt c v f u (deep + 1) (d - 1) (x .next)) (singleT at (refsOf tabs) x)
-                value-whole = single-whole e ∙ then-is _ x _ (sym a ∙ b)
+                value-whole : answerAt c v f t deep d at ≡ thenT (answerAt c v f u (deep + 1) (d - 1) (x .next)) (singleT at pick (refsOf tabs) x)
+                value-whole = single-whole pick e ∙ then-is _ x _ (sym a ∙ b)
 
                 module _ (r : Typed) (h : r ≡ answerAt c v f u (deep + 1) (d - 1) (x .next)) where
                   pub value-refused : (i k : ℕ) → r ≡ typed.Refused i k → typed.Refused i k ≡ answerAt c v f t deep d at
                   value-refused i k j = sym (value-whole ∙ then-refused _ i k _ (sym h ∙ j))
 
-                  pub single-done : (y : Known) (s : Typed) → r ≡ typed.Is y → s ≡ singleT at (refsTo (tablesIn (openOf c (f .nc) (o .scope)))) x y → s ≡ answerAt c v f t deep d at
+                  pub single-done : (y : Known) (s : Typed) → r ≡ typed.Is y → s ≡ singleT at pick (refsTo (tablesIn (openOf c (f .nc) (o .scope)))) x y → s ≡ answerAt c v f t deep d at
                   single-done y s j m =
-                      m ∙ ap (λ (us : List Table). singleT at (refsTo us) x y) own-tables ∙ sym (own-single (refsOf tabs) at x y)
+                      m ∙ ap (λ (us : List Table). singleT at pick (refsTo us) x y) own-tables ∙ sym (own-single (refsOf tabs) at pick x y)
                       ∙ sym (value-whole ∙ then-is _ y _ (sym h ∙ j))

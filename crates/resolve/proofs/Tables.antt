@@ -13,22 +13,27 @@ use Rattle.class.specs.Class.{lubAll}
 use Rattle.class.specs.Info.{boundOf}
 use Rattle.class.specs.declared.Info.{Info}
 use Rattle.class.specs.declared.Info.the-variants.{Fixed, Bound}
-use Rattle.cell.specs.Types.{kindOf}
-use Rattle.cell.specs.declared.Type.the-variants as T
+use Rattle.cell.specs.Types.{kindOf, judgedOf}
+use Rattle.cell.specs.declared.Type.{«Type» as Ty}
+use Rattle.cell.specs.declared.Judged.{Judged}
+use Rattle.cell.specs.declared.Judged.the-variants as J
 use Rattle.catalogue.specs.Tables.{Table, TabRef}
+use Rattle.view.specs.declared.Fold.{Fold}
+use Rattle.view.specs.declared.Pick.{Pick}
 use Rattle.scope.specs.Table.{tabsAt, openOf}
 use Rattle.scope.specs.Entry.{tablesIn, rowsOf, classesOf}
 use Rattle.scope.specs.declared.Scope.{Scope}
 use Rattle.scope.proofs.Block.{tables-in}
+use Rattle.resolve.specs.Totals.{foldType, pickType}
 use Rattle.resolve.specs.Infos.{tableClass}
 use Rattle.resolve.specs.Sizes.{weighed, joinW, joinsW, joinAllW, choiceW, rowsW, blockW, capped}
-use Rattle.resolve.specs.Steps.{classOf, stopped, knownBy, aggW, refsTo, existsK, singleK, boolT, existsT, singleT}
+use Rattle.resolve.specs.Steps.{classOf, stopped, knownBy, aggW, refsTo, existsK, singleK, ruledT, boolT, existsT, singleT}
 use Rattle.resolve.specs.Claims.{Opening}
 use Rattle.resolve.specs.declared.Weighed.{Weighed}
 use Rattle.resolve.specs.declared.Known.{Known}
 use Rattle.resolve.specs.declared.Typed.the-variants as typed
 use Rattle.resolve.proofs.Weights.{Alike, alike-refl, alike-trans, all-refl, joins-alike, weighed-alike, join-alike, choice-alike, agg-alike, known-alike}
-use Rattle.resolve.proofs.Leaves.{stopped-alike, alike-stopped}
+use Rattle.resolve.proofs.Leaves.{stopped-alike, alike-stopped, judged-is, judged-broken}
 
 -- two weights whose stopped ones are equal
 pub alike-both : (x y : Weighed) → stopped x ≡ stopped y → Alike x y
@@ -82,13 +87,13 @@ module _ (ts : List TabRef) where
   unfolding blockW
   own-block xs = rw (own-rows, own-length, own-class)
 
-  pub own-exists : (at : ℕ) (x : Known) → existsT at ts x ≡ existsT at (refsTo (map (λ t. t .table) ts)) x
+  pub own-exists : (at : ℕ) (f : Fold) (x : Known) → existsT at f ts x ≡ existsT at f (refsTo (map (λ t. t .table) ts)) x
   unfolding existsT existsK
-  own-exists at x = rw (own-block (classOf x ∷ []), own-length)
+  own-exists at f x = rw (own-block (classOf x ∷ []), own-length)
 
-  pub own-single : (at : ℕ) (x y : Known) → singleT at ts x y ≡ singleT at (refsTo (map (λ t. t .table) ts)) x y
+  pub own-single : (at : ℕ) (g : Pick) (x y : Known) → singleT at g ts x y ≡ singleT at g (refsTo (map (λ t. t .table) ts)) x y
   unfolding singleT singleK
-  own-single at x y = rw (own-block (classOf x ∷ choiceW (x .values) (classOf y) (weighed (Fixed 0) 1) ∷ []), own-length)
+  own-single at g x y = rw (own-block (classOf x ∷ choiceW (x .values) (classOf y) (weighed (Fixed 0) 1) ∷ []), own-length)
 
 -- THE ROWS, joined from the left.
 joins-append : (w : Weighed) (ws xs : List Weighed) → joinsW w (ws ++ xs) ≡ joinsW (joinsW w ws) xs
@@ -129,7 +134,7 @@ module _ (c : List ℕ) (n : ℕ) (s : Scope) where
   us = tablesIn (openOf c n s)
 
   pub number-of : (m : ℕ) → (m ≡ min (s .count) 4) × (m ≤ 4) → m ≡ length (tablesIn (openOf c n s))
-  number-of m l = l .0 ∙ sym (ap length (tables-in c n s) ∙ tabs-length c n (s .tables) 0 (min (s .count) 4))
+  number-of m l = l .0 ∙ sym (ap length (tables-in c n s) ∙ tabs-length c n (s .words) 0 (min (s .count) 4))
 
   pub rows-begin : (i : Info) (w : Weighed) → i ≡ getD (rowsOf (tablesIn (openOf c n s))) 0 (Fixed 0) → w ≡ stopped (weighed i 1) → Joined (tablesIn (openOf c n s)) w 1
   rows-begin i w e f =
@@ -183,23 +188,24 @@ module _ (c : List ℕ) (n : ℕ) (s : Scope) (o : Opening c n s) (m k : ℕ) (l
       (alike-trans w (aggW m k row) _ (alike-stopped w _ f)
       (agg-alike m k row _ (alike-trans row (joinsW q xs) _ e (joins-alike q _ (alike-both q _ b) (all-refl xs)))))
 
-  pub exists-is : (x : Known) (p row w : Weighed) (g h : ℕ) (r : Known) → p ≡ classOf x → row ≡ stopped (joinW q p) → w ≡ stopped (aggW m k row)
-      → g ≡ capped (m + x .values) → h ≡ capped (1 + g) → r ≡ knownBy T.Boolean (x .next) h w → r ≡ existsK (refsTo (tablesIn (openOf c n s))) x
+  pub exists-is : (f : Fold) (t : Ty) (x : Known) (p row w : Weighed) (g h : ℕ) (r : Known) → t ≡ foldType f → p ≡ classOf x → row ≡ stopped (joinW q p) → w ≡ stopped (aggW m k row)
+      → g ≡ capped (m + x .values) → h ≡ capped (1 + g) → r ≡ knownBy t (x .next) h w → r ≡ existsK f (refsTo (tablesIn (openOf c n s))) x
   unfolding existsK
-  exists-is x p row w g h r e f i j d z =
-      z ∙ known-alike T.Boolean (x .next) h (1 + (length refs + x .values)) w _ (omega (arith, m-is))
-      (block-is (classOf x ∷ []) row w (unfold joinsW in rw (← e) (alike-stopped row _ f)) i)
+  exists-is f t x p row w g h r v e u i j d z =
+      z ∙ ap (λ (y : Ty). knownBy y (x .next) h w) v
+      ∙ known-alike (foldType f) (x .next) h (1 + (length refs + x .values)) w _ (omega (arith, m-is))
+      (block-is (classOf x ∷ []) row w (unfold joinsW in rw (← e) (alike-stopped row _ u)) i)
 
-  pub single-is : (x y : Known) (row w : Weighed) (g h i : ℕ) (r : Known)
+  pub single-is : (t : Ty) (x y : Known) (row w : Weighed) (g h i : ℕ) (r : Known)
       → row ≡ stopped (joinsW q (classOf x ∷ choiceW (x .values) (classOf y) (weighed (Fixed 0) 1) ∷ [])) → w ≡ stopped (aggW m k row)
-      → g ≡ capped (x .values + y .values) → h ≡ capped (m + g) → i ≡ capped (1 + h) → r ≡ knownBy (y .ty) (y .next) i w
-      → r ≡ singleK (refsTo (tablesIn (openOf c n s))) x y
+      → g ≡ capped (x .values + y .values) → h ≡ capped (m + g) → i ≡ capped (1 + h) → r ≡ knownBy t (y .next) i w
+      → r ≡ singleK t (refsTo (tablesIn (openOf c n s))) x y
   unfolding singleK
-  single-is x y row w g h i r e f a1 a2 a3 z =
-      z ∙ known-alike (y .ty) (y .next) i (1 + (length refs + (x .values + y .values))) w _ (omega (arith, m-is))
+  single-is t x y row w g h i r e f a1 a2 a3 z =
+      z ∙ known-alike t (y .next) i (1 + (length refs + (x .values + y .values))) w _ (omega (arith, m-is))
       (block-is (classOf x ∷ choiceW (x .values) (classOf y) (weighed (Fixed 0) 1) ∷ []) row w (alike-stopped row _ e) f)
 
--- what VALUE reads at one row
+-- what VALUE, MAX and MIN read at one row
 pub row-is : (q p u none choice part r : Weighed) (x y : Known) → none ≡ stopped (weighed (Fixed 0) 1) → u ≡ classOf y → choice ≡ stopped (choiceW (x .values) u none)
     → p ≡ classOf x → part ≡ stopped (joinW q p) → r ≡ stopped (joinW part choice)
     → r ≡ stopped (joinsW q (classOf x ∷ choiceW (x .values) (classOf y) (weighed (Fixed 0) 1) ∷ []))
@@ -209,24 +215,30 @@ row-is q p u none choice part r x y a b d e f g =
     (join-alike part _ choice _ (rw (← e) (alike-stopped part _ f))
     (alike-trans choice (choiceW (x .values) u none) _ (alike-stopped choice _ d) (choice-alike (x .values) (x .values) u _ none _ refl (rw b (alike-refl _)) (alike-stopped none _ a))))
 
--- the where's type
+-- the where's type, then the rule of MAX and MIN
 module _ (at : ℕ) (ts : List TabRef) (x : Known) (kind : ℕ) (e : kind ≡ kindOf (x .ty)) where
-  pub exists-bool : (r : Known) → kind ≡ 1 → r ≡ existsK ts x → typed.Is r ≡ existsT at ts x
+  pub exists-bool : (q : Fold) (r : Known) → kind ≡ 1 → r ≡ existsK q ts x → typed.Is r ≡ existsT at q ts x
   unfolding existsT boolT
-  exists-bool r f g = rw (eq-eqb (kindOf (x .ty)) 1 (sym e ∙ f), g)
+  exists-bool q r f g = rw (eq-eqb (kindOf (x .ty)) 1 (sym e ∙ f), g)
 
-  pub exists-other : (kind ≡ 1 → ⊥) → typed.Refused 9 at ≡ existsT at ts x
+  pub exists-other : (q : Fold) → (kind ≡ 1 → ⊥) → typed.Refused 9 at ≡ existsT at q ts x
   unfolding existsT boolT
-  exists-other f = rw (ne-eqb (kindOf (x .ty)) 1 (λ h. f (e ∙ h)))
+  exists-other q f = rw (ne-eqb (kindOf (x .ty)) 1 (λ h. f (e ∙ h)))
 
-  pub single-bool : (y r : Known) → kind ≡ 1 → r ≡ singleK ts x y → typed.Is r ≡ singleT at ts x y
-  unfolding singleT boolT
-  single-bool y r f g = rw (eq-eqb (kindOf (x .ty)) 1 (sym e ∙ f), g)
+  module _ (q : Pick) (y : Known) where
+    pub single-other : (kind ≡ 1 → ⊥) → typed.Refused 9 at ≡ singleT at q ts x y
+    unfolding singleT boolT
+    single-other f = rw (ne-eqb (kindOf (x .ty)) 1 (λ h. f (e ∙ h)))
 
-  pub single-other : (y : Known) → (kind ≡ 1 → ⊥) → typed.Refused 9 at ≡ singleT at ts x y
-  unfolding singleT boolT
-  single-other y f = rw (ne-eqb (kindOf (x .ty)) 1 (λ h. f (e ∙ h)))
+    module _ (f : kind ≡ 1) (j : Judged) (g : j ≡ judgedOf (pickType q (y .ty))) where
+      pub single-ruled : (u : Ty) (r : Known) → j ≡ J.Is u → r ≡ singleK u ts x y → typed.Is r ≡ singleT at q ts x y
+      unfolding singleT boolT ruledT
+      single-ruled u r h i = rw (eq-eqb (kindOf (x .ty)) 1 (sym e ∙ f), judged-is _ u (sym g ∙ h), i)
+
+      pub single-broken : j ≡ J.Broken → typed.Refused 9 at ≡ singleT at q ts x y
+      unfolding singleT boolT ruledT
+      single-broken h = rw (eq-eqb (kindOf (x .ty)) 1 (sym e ∙ f), judged-broken _ (sym g ∙ h))
 
 pub ruleset rowed = (rows-begin, rows-again, rows-done, agg-is, row-is, needs)
 
-pub ruleset blocked = (exists-is, single-is, exists-bool, exists-other, single-bool, single-other, needs)
+pub ruleset blocked = (exists-is, single-is, exists-bool, exists-other, single-other, single-ruled, single-broken, needs)

@@ -14,8 +14,11 @@ use Rattle.cell.specs.declared.Type.{«Type» as Ty}
 use Rattle.cell.specs.declared.Type.the-variants as T
 use Rattle.cell.specs.declared.Value.{Value}
 use Rattle.catalogue.specs.Tables.{TabRef}
+use Rattle.view.specs.declared.Fold.{Fold}
+use Rattle.view.specs.declared.Pick.{Pick}
 use Rattle.resolve.specs.Expr.{Expr}
 use Rattle.resolve.specs.Expr as expr
+use Rattle.resolve.specs.Totals.{foldType}
 use Rattle.resolve.specs.Resolve.{brought}
 use Rattle.resolve.specs.Infos.{tableClass, joinAllI, blockI, classInfo}
 use Rattle.resolve.specs.Sizes.{sizeD, sizedI, weighed, joinW, joinsW, joinAllW, choiceW, bindSize, letW, rowsW, blockW, weigh, capped}
@@ -60,8 +63,8 @@ weigh-info k is (expr.Expr.conv p s x) = weigh-info k is x
 weigh-info k is (expr.Expr.if c x y) = rw (weigh-info k is c, weigh-info k is x, weigh-info k is y)
 weigh-info k is (expr.Expr.letin x y) =
     weigh-info k (weigh k is x .info ∷ is) y ∙ ap (λ (i : Info). classInfo k (i ∷ is) y) (weigh-info k is x)
-weigh-info k is (expr.Expr.exists ts w) = block-info ts _ ∙ ap (λ (i : Info). blockI ts (i ∷ [])) (weigh-info k (Fixed 0 ∷ is) w)
-weigh-info k is (expr.Expr.single ts w v) =
+weigh-info k is (expr.Expr.exists f ts w) = block-info ts _ ∙ ap (λ (i : Info). blockI ts (i ∷ [])) (weigh-info k (Fixed 0 ∷ is) w)
+weigh-info k is (expr.Expr.single g ts w v) =
     block-info ts _ ∙ ap (λ (i : Info). blockI ts (i ∷ choiceI (weigh k (Fixed 0 ∷ is) v .info) (Fixed 0) ∷ [])) (weigh-info k (Fixed 0 ∷ is) w)
     ∙ ap (λ (i : Info). blockI ts (classInfo k (Fixed 0 ∷ is) w ∷ choiceI i (Fixed 0) ∷ [])) (weigh-info k (Fixed 0 ∷ is) v)
 
@@ -251,26 +254,26 @@ module _ (k : ℕ) (is : List Info) where
       body : Alike (weigh k (weigh k is x .info ∷ is) y) (classOf (knownOf k (knownOf k is m x s .info ∷ is) next y t))
       body = rw same (class-of k (knownOf k is m x s .info ∷ is) next y t)
 
-  pub exists-known : (next : ℕ) (ts : List TabRef) (w : Expr) (s : Ty)
-      → knownOf k is next (expr.Expr.exists ts w) T.Boolean ≡ existsK ts (knownOf k (Fixed 0 ∷ is) next w s)
+  pub exists-known : (next : ℕ) (f : Fold) (ts : List TabRef) (w : Expr) (s : Ty)
+      → knownOf k is next (expr.Expr.exists f ts w) (foldType f) ≡ existsK f ts (knownOf k (Fixed 0 ∷ is) next w s)
   unfolding sizeD weigh existsK
-  exists-known next ts w s =
-      known-by k is next (expr.Expr.exists ts w) T.Boolean
-      ∙ known-alike T.Boolean next (1 + (length ts + sizeD w)) _ (blockW ts (weigh k (Fixed 0 ∷ is) w ∷ [])) _
+  exists-known next f ts w s =
+      known-by k is next (expr.Expr.exists f ts w) (foldType f)
+      ∙ known-alike (foldType f) next (1 + (length ts + sizeD w)) _ (blockW ts (weigh k (Fixed 0 ∷ is) w ∷ [])) _
       (one-capped (length ts) _ (sizeD w) _ refl (values-of k (Fixed 0 ∷ is) next w s))
       (block-alike ts _ _ (also (class-of k (Fixed 0 ∷ is) next w s) none))
       ∙ (unfold knownOf in refl)
 
-  pub single-known : (m next : ℕ) (ts : List TabRef) (w v : Expr) (s t : Ty)
-      → knownOf k is next (expr.Expr.single ts w v) t ≡ singleK ts (knownOf k (Fixed 0 ∷ is) m w s) (knownOf k (Fixed 0 ∷ is) next v t)
+  pub single-known : (m next : ℕ) (g : Pick) (ts : List TabRef) (w v : Expr) (s u t : Ty)
+      → knownOf k is next (expr.Expr.single g ts w v) t ≡ singleK t ts (knownOf k (Fixed 0 ∷ is) m w s) (knownOf k (Fixed 0 ∷ is) next v u)
   unfolding sizeD weigh singleK
-  single-known m next ts w v s t =
-      known-by k is next (expr.Expr.single ts w v) t
+  single-known m next g ts w v s u t =
+      known-by k is next (expr.Expr.single g ts w v) t
       ∙ known-alike t next (1 + (length ts + (sizeD w + sizeD v))) _
       (blockW ts (weigh k (Fixed 0 ∷ is) w ∷ choiceW (sizeD w) (weigh k (Fixed 0 ∷ is) v) (weighed (Fixed 0) 1) ∷ [])) _
-      (one-capped (length ts) _ (sizeD w + sizeD v) _ refl (plus-capped (sizeD w) _ (sizeD v) _ (values-of k (Fixed 0 ∷ is) m w s) (values-of k (Fixed 0 ∷ is) next v t)))
+      (one-capped (length ts) _ (sizeD w + sizeD v) _ refl (plus-capped (sizeD w) _ (sizeD v) _ (values-of k (Fixed 0 ∷ is) m w s) (values-of k (Fixed 0 ∷ is) next v u)))
       (block-alike ts _ _
       (also (class-of k (Fixed 0 ∷ is) m w s)
-      (also (choice-alike (sizeD w) _ _ _ _ _ (values-of k (Fixed 0 ∷ is) m w s) (class-of k (Fixed 0 ∷ is) next v t) (alike-refl _))
+      (also (choice-alike (sizeD w) _ _ _ _ _ (values-of k (Fixed 0 ∷ is) m w s) (class-of k (Fixed 0 ∷ is) next v u) (alike-refl _))
       none)))
       ∙ (unfold knownOf in refl)

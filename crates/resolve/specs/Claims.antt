@@ -2,9 +2,9 @@
 -- Assumes nothing.
 use Prim.Native.Nat.{ℕ, _+_, _*_, _<_, _≤_}
 use mathlib.Core.Path.{_≡_}
-use mathlib.Core.Bool.{Bool, true, false}
 use mathlib.Core.List.{List}
 use lib.ListN.{length}
+use Rattle.class.specs.declared.Info.{Info}
 use Rattle.catalogue.specs.Tables.{Table, tablesFrom}
 use Rattle.catalogue.specs.Starts.{StartsAre}
 use Rattle.view.specs.Ast.{Exp, Block, Parsed, ok, refused, WasRead}
@@ -17,7 +17,12 @@ use Rattle.scope.specs.Table.{scopesOf, infosOf}
 use Rattle.scope.specs.Entry.{Among}
 use Rattle.scope.specs.declared.Scope.{Scope}
 use Rattle.resolve.specs.Resolve.{Outs, goods, bads, resolveAll, Resolved, select, refused as denied, resolveView}
+use Rattle.resolve.specs.Sizes.{capped, pairsSize, sumsOf}
 use Rattle.resolve.specs.Typed.{typedBy}
+use Rattle.resolve.specs.declared.Asked.{Asked}
+use Rattle.resolve.specs.declared.Asked.the-variants.{Rows, Values}
+use Rattle.resolve.specs.declared.Counted.{Counted}
+use Rattle.resolve.specs.declared.Counted.the-variants as counted
 use Rattle.resolve.specs.declared.Files.{Files}
 use Rattle.resolve.specs.declared.Typed.{Typed}
 use Rattle.resolve.specs.declared.Verdict.{Verdict}
@@ -51,28 +56,29 @@ abbrev pub answerAt : List ℕ → List ℕ → Files → List Scope → ℕ →
 answerAt c v f t deep d at =
     typedBy (f .k) (tablesFrom c (f .nc) (f .nc) 0) (scopesOf c (f .nc) t deep) (infosOf t deep) (parseValue v (f .n) d at)
 
--- EXISTS, or VALUE
-unfoldable pub blockNode : Bool → ℕ → Node
-blockNode false a = Exists a
-blockNode true a = Single a
+-- a block's node, by what is asked of it
+unfoldable pub blockNode : Asked → ℕ → Node
+blockNode (Rows f) a = Exists a f
+blockNode (Values g) a = Single a g
 
 -- THE ANSWER FOR A VIEW
 unfoldable pub resolvedBy : List Table → Parsed Block → Resolved
 resolvedBy cat (ok b end) = resolveView cat b
 resolvedBy cat (refused number place) = denied number place
 
-unfoldable pub verdictOf : Resolved → Verdict
-verdictOf (select s ts) = verdict.Fine
-verdictOf (denied number place) = verdict.Refused number place
+-- k is the class of the view's constants
+unfoldable pub verdictOf : ℕ → Resolved → Verdict
+verdictOf k (select s ts) = verdict.Fine (sumsOf k s)
+verdictOf k (denied number place) = verdict.Refused number place
 
 -- the same of several values
 unfoldable pub resolvedAll : List Table → List Open → Parsed (List Exp) → Outs
 resolvedAll cat Γ (ok es end) = resolveAll cat Γ es
 resolvedAll cat Γ (refused number place) = bads number place
 
-unfoldable pub verdictAll : Outs → Verdict
-verdictAll (goods xs ts) = verdict.Fine
-verdictAll (bads number place) = verdict.Refused number place
+unfoldable pub verdictAll : ℕ → List Info → Outs → Counted
+verdictAll k is (goods xs ts) = counted.Records (capped (pairsSize k is xs))
+verdictAll k is (bads number place) = counted.Refused number place
 
 -- a catalogue whose numbers are right, and a view that the structural check took
 pub record Accepted (c ss v : List ℕ) (f : Files) : Type 0 where

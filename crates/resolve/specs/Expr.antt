@@ -6,6 +6,8 @@ use Rattle.class.specs.declared.Info.{Info}
 use Rattle.cell.specs.declared.Type.{«Type» as Ty}
 use Rattle.cell.specs.declared.Value.{Value}
 use Rattle.catalogue.specs.Tables.{TabRef}
+use Rattle.view.specs.declared.Fold.{Fold}
+use Rattle.view.specs.declared.Pick.{Pick}
 
 pub data Expr : Type 0 where
   const : Ty → Value → Expr
@@ -21,8 +23,9 @@ pub data Expr : Type 0 where
   conv : ℕ → ℕ → Expr → Expr
   if : Expr → Expr → Expr → Expr
   letin : Expr → Expr → Expr
-  exists : List TabRef → Expr → Expr
-  single : List TabRef → Expr → Expr → Expr
+  -- EXISTS or COUNT; VALUE, MAX or MIN
+  exists : Fold → List TabRef → Expr → Expr
+  single : Pick → List TabRef → Expr → Expr → Expr
 
 -- SELECT: its tables, its where, its values
 pub record Select : Type 0 where

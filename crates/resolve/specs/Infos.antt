@@ -34,6 +34,6 @@ classInfo k is (expr.Expr.neg x) = classInfo k is x
 classInfo k is (expr.Expr.conv p s x) = classInfo k is x
 classInfo k is (expr.Expr.if c x y) = joinI (classInfo k is c) (choiceI (classInfo k is x) (classInfo k is y))
 classInfo k is (expr.Expr.letin x y) = classInfo k (classInfo k is x ∷ is) y
-classInfo k is (expr.Expr.exists ts w) = blockI ts (classInfo k (Fixed 0 ∷ is) w ∷ [])
-classInfo k is (expr.Expr.single ts w v) =
+classInfo k is (expr.Expr.exists f ts w) = blockI ts (classInfo k (Fixed 0 ∷ is) w ∷ [])
+classInfo k is (expr.Expr.single g ts w v) =
     blockI ts (classInfo k (Fixed 0 ∷ is) w ∷ choiceI (classInfo k (Fixed 0 ∷ is) v) (Fixed 0) ∷ [])

@@ -1,6 +1,7 @@
--- The definitions of names and types: Expr and Resolve have the rules, Infos and Sizes what is known of a class and of the trees,
+-- The definitions of names and types: Expr, Totals and Resolve have the rules, Infos and Sizes what is known of a class and of the trees,
 -- Typed the walk's answer, Steps its steps, Claims what it requires. Assumes nothing.
 pub mod Expr
+pub mod Totals
 pub mod Resolve
 pub mod Infos
 pub mod Sizes

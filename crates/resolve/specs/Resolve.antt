@@ -15,6 +15,7 @@ use Rattle.scope.specs.Scopes.{Open, block, local, Hit, column, bound, Only, no
 use Rattle.scope.specs.Blocks.{Tabs, all, missing, tablesNamed, opened}
 use Rattle.resolve.specs.Expr.{Expr, Select}
 use Rattle.resolve.specs.Expr as expr
+use Rattle.resolve.specs.Totals.{foldType, pickType}
 
 -- an expression with its type, or a refusal: number and place
 pub data Out : Type 0 where
@@ -72,15 +73,15 @@ resolve cat Γ (ast.Exp.if at c l r) =
     then (resolve cat Γ l) (λ y t.
     then (resolve cat Γ r) (λ z u.
     needBool at s (ruled at (limbType t u) (λ w. good (expr.Expr.if x (brought t w y) (brought u w z)) w)))))
-resolve cat Γ (ast.Exp.exists at names w) =
+resolve cat Γ (ast.Exp.exists at f names w) =
     onTabs (tablesNamed cat names) (λ ts.
     then (resolve cat (opened ts ∷ Γ) w) (λ x t.
-    needBool at t (good (expr.Expr.exists ts x) T.Boolean)))
-resolve cat Γ (ast.Exp.single at names w v) =
+    needBool at t (good (expr.Expr.exists f ts x) (foldType f))))
+resolve cat Γ (ast.Exp.single at g names w v) =
     onTabs (tablesNamed cat names) (λ ts.
     then (resolve cat (opened ts ∷ Γ) w) (λ x s.
     then (resolve cat (opened ts ∷ Γ) v) (λ y t.
-    needBool at s (good (expr.Expr.single ts x y) t))))
+    needBool at s (ruled at (pickType g t) (λ u. good (expr.Expr.single g ts x y) u)))))
 resolve cat Γ (ast.Exp.col at name q) = colOut at (find name q 0 Γ)
 resolve cat Γ (ast.Exp.classof at name q) = classOut at (find name q 0 Γ)
 resolve cat Γ (ast.Exp.letin at name v b) =

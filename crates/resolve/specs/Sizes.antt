@@ -7,9 +7,10 @@ use Rattle.class.specs.Info.{boundOf, joinI, choiceI}
 use Rattle.class.specs.declared.Info.{Info}
 use Rattle.class.specs.declared.Info.the-variants.{Fixed, Bound}
 use Rattle.catalogue.specs.Tables.{TabRef}
-use Rattle.resolve.specs.Expr.{Expr}
+use Rattle.resolve.specs.Expr.{Expr, Select}
 use Rattle.resolve.specs.Expr as expr
 use Rattle.resolve.specs.Infos.{tableClass, classInfo}
+use Rattle.resolve.specs.declared.Sums.{Sums}
 use Rattle.resolve.specs.declared.Weighed.{Weighed}
 
 -- the data tree
@@ -23,8 +24,8 @@ sizeD (expr.Expr.neg x) = 1 + sizeD x
 sizeD (expr.Expr.conv p s x) = 1 + sizeD x
 sizeD (expr.Expr.if c x y) = 1 + (sizeD c + (sizeD x + sizeD y))
 sizeD (expr.Expr.letin x y) = 1 + (sizeD x + sizeD y)
-sizeD (expr.Expr.exists ts w) = 1 + (length ts + sizeD w)
-sizeD (expr.Expr.single ts w v) = 1 + (length ts + (sizeD w + sizeD v))
+sizeD (expr.Expr.exists f ts w) = 1 + (length ts + sizeD w)
+sizeD (expr.Expr.single g ts w v) = 1 + (length ts + (sizeD w + sizeD v))
 
 -- the size of a class's tree: one record where the class is fixed, else n
 unfoldable pub sizedI : Info → ℕ → ℕ
@@ -78,10 +79,25 @@ weigh k is (expr.Expr.neg x) = weigh k is x
 weigh k is (expr.Expr.conv p s x) = weigh k is x
 weigh k is (expr.Expr.if c x y) = joinW (weigh k is c) (choiceW (sizeD c) (weigh k is x) (weigh k is y))
 weigh k is (expr.Expr.letin x y) = letW (sizeD x) (weigh k is x) (weigh k (weigh k is x .info ∷ is) y)
-weigh k is (expr.Expr.exists ts w) = blockW ts (weigh k (Fixed 0 ∷ is) w ∷ [])
-weigh k is (expr.Expr.single ts w v) =
+weigh k is (expr.Expr.exists f ts w) = blockW ts (weigh k (Fixed 0 ∷ is) w ∷ [])
+weigh k is (expr.Expr.single g ts w v) =
     blockW ts (weigh k (Fixed 0 ∷ is) w ∷ choiceW (sizeD w) (weigh k (Fixed 0 ∷ is) v) (weighed (Fixed 0) 1) ∷ [])
 
 -- sizes stop just above 8,190
 abbrev pub capped : ℕ → ℕ
 capped n = min n 8191
+
+-- all pairs of data and class of several values
+unfoldable pub pairsSize : ℕ → List Info → List Expr → ℕ
+pairsSize k is [] = 0
+pairsSize k is (x ∷ xs) = sizeD x + (weigh k is x .size + pairsSize k is xs)
+
+-- A VIEW, under the scope of SELECT's block alone: what is known of its where's class, the records of the where's data and class, and those of its values
+unfoldable pub sumsOf : ℕ → Select → Sums
+sumsOf k s =
+    record {
+      info = classInfo k (Fixed 0 ∷ []) (s .test);
+      values = capped (sizeD (s .test));
+      classes = capped (weigh k (Fixed 0 ∷ []) (s .test) .size);
+      pairs = capped (pairsSize k (Fixed 0 ∷ []) (s .values));
+    }

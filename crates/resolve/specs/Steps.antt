@@ -13,8 +13,11 @@ use Rattle.cell.specs.Types.{kindOf, binopType, limbType, sameType}
 use Rattle.cell.specs.declared.Type.{«Type» as Ty}
 use Rattle.cell.specs.declared.Type.the-variants as T
 use Rattle.catalogue.specs.Tables.{Table, TabRef}
+use Rattle.view.specs.declared.Fold.{Fold}
+use Rattle.view.specs.declared.Pick.{Pick}
 use Rattle.scope.specs.declared.Found.{Found}
 use Rattle.scope.specs.declared.Found.the-variants as F
+use Rattle.resolve.specs.Totals.{foldType, pickType}
 use Rattle.resolve.specs.Sizes.{capped, weighed, joinW, choiceW, letW, blockW}
 use Rattle.resolve.specs.declared.Weighed.{Weighed}
 use Rattle.resolve.specs.declared.Known.{Known}
@@ -55,12 +58,12 @@ ifK t c x y =
 unfoldable pub letK : Known → Known → Known
 letK x y = knownBy (y .ty) (y .next) (1 + (x .values + y .values)) (letW (x .values) (classOf x) (classOf y))
 
-unfoldable pub existsK : List TabRef → Known → Known
-existsK ts x = knownBy T.Boolean (x .next) (1 + (length ts + x .values)) (blockW ts (classOf x ∷ []))
+unfoldable pub existsK : Fold → List TabRef → Known → Known
+existsK f ts x = knownBy (foldType f) (x .next) (1 + (length ts + x .values)) (blockW ts (classOf x ∷ []))
 
-unfoldable pub singleK : List TabRef → Known → Known → Known
-singleK ts x y =
-    knownBy (y .ty) (y .next) (1 + (length ts + (x .values + y .values)))
+unfoldable pub singleK : Ty → List TabRef → Known → Known → Known
+singleK t ts x y =
+    knownBy t (y .next) (1 + (length ts + (x .values + y .values)))
     (blockW ts (classOf x ∷ choiceW (x .values) (classOf y) (weighed (Fixed 0) 1) ∷ []))
 
 -- AGG over what is read at one row, of m tables, joined with the tables' class
@@ -89,11 +92,11 @@ notT at x = boolT at (x .ty) (typed.Is (notK x))
 unfoldable pub ifT : ℕ → Known → Known → Known → Typed
 ifT at c x y = boolT at (c .ty) (ruledT at (limbType (x .ty) (y .ty)) (λ t. ifK t c (broughtK t x) (broughtK t y)))
 
-unfoldable pub existsT : ℕ → List TabRef → Known → Typed
-existsT at ts x = boolT at (x .ty) (typed.Is (existsK ts x))
+unfoldable pub existsT : ℕ → Fold → List TabRef → Known → Typed
+existsT at f ts x = boolT at (x .ty) (typed.Is (existsK f ts x))
 
-unfoldable pub singleT : ℕ → List TabRef → Known → Known → Typed
-singleT at ts x y = boolT at (x .ty) (typed.Is (singleK ts x y))
+unfoldable pub singleT : ℕ → Pick → List TabRef → Known → Known → Typed
+singleT at g ts x y = boolT at (x .ty) (ruledT at (pickType g (y .ty)) (λ t. singleK t ts x y))
 
 -- COL: a column or a local; none is 7, more is 8
 unfoldable pub colT : ℕ → Found → Typed

@@ -1,4 +1,4 @@
-// What is known of EXISTS and of VALUE from what is known of the where and the value, over the entry of the block's scope.
+// What is known of a block from what is known of its where and its value, over the entry of the block's scope.
 // The tables' row classes and their own classes are looked up in the catalogue.
 ghost use mathlib.Core.Path.{_≡_};
 ghost use Prim.Native.Nat.{ℕ, _+_, _*_, _≤_, _<_, min};
@@ -19,6 +19,8 @@ use crate::steps::joined;
 use crate::steps::made;
 use crate::steps::plus;
 use crate::steps::weigh;
+use crate::totals::fold_type;
+use crate::totals::pick_type;
 
 // The number of a block's tables.
 fn tables_in(s: scope::Scope) -> usize
@@ -53,17 +55,17 @@ fn agg(m: usize, k: u16, w: Weighed) -> Weighed
     joined(inner, weigh(class::Info::Fixed(k), 1))
 }
 
-fn exists(s: scope::Scope, cat: &[u8], n: usize, x: Known) -> Known
+fn exists(s: scope::Scope, cat: &[u8], n: usize, f: view::Fold, x: Known) -> Known
     requires { ⌜ Opening (now cat) n s ⌝ }
-    ensures { λ r. ⌜ r ≡ existsK (refsTo (tablesIn (openOf (now (cat .entry)) n s))) x ⌝ }
+    ensures { λ r. ⌜ r ≡ existsK f (refsTo (tablesIn (openOf (now (cat .entry)) n s))) x ⌝ }
 {
     let m = tables_in(s);
     let row = joined(rows(s, cat, n), class_of(x));
     let w = agg(m, scope::block_class(s, cat, n), row);
-    made(cell::Type::Boolean, x.next, plus(1, plus(m, x.values)), w)
+    made(fold_type(f), x.next, plus(1, plus(m, x.values)), w)
 }
 
-// What VALUE reads at one row: the row classes q, the where, and the choice of the value or nothing.
+// What VALUE, MAX and MIN read at one row: the row classes q, the where, and the choice of the value or nothing.
 fn at_row(q: Weighed, x: Known, y: Known) -> Weighed
     ensures { λ r. ⌜ r ≡ stopped (joinsW q (classOf x ∷ choiceW (x .values) (classOf y) (weighed (Fixed 0) 1) ∷ [])) ⌝ }
 {
@@ -72,38 +74,56 @@ fn at_row(q: Weighed, x: Known, y: Known) -> Weighed
     joined(joined(q, class_of(x)), choice)
 }
 
-fn single(s: scope::Scope, cat: &[u8], n: usize, x: Known, y: Known) -> Known
+fn single(s: scope::Scope, cat: &[u8], n: usize, t: cell::Type, x: Known, y: Known) -> Known
     requires { ⌜ Opening (now cat) n s ⌝ }
-    ensures { λ r. ⌜ r ≡ singleK (refsTo (tablesIn (openOf (now (cat .entry)) n s))) x y ⌝ }
+    ensures { λ r. ⌜ r ≡ singleK t (refsTo (tablesIn (openOf (now (cat .entry)) n s))) x y ⌝ }
 {
     let m = tables_in(s);
-    let t = y.ty;
     let row = at_row(rows(s, cat, n), x, y);
     let w = agg(m, scope::block_class(s, cat, n), row);
     made(t, y.next, plus(1, plus(m, plus(x.values, y.values))), w)
 }
 
-// EXISTS.
-pub fn with_exists(s: scope::Scope, cat: &[u8], n: usize, at: usize, x: Known) -> Typed
+// EXISTS and COUNT.
+pub fn with_exists(
+    s: scope::Scope,
+    cat: &[u8],
+    n: usize,
+    at: usize,
+    f: view::Fold,
+    x: Known,
+) -> Typed
     requires { ⌜ Opening (now cat) n s ⌝ }
-    ensures { λ r. ⌜ r ≡ existsT at (refsTo (tablesIn (openOf (now (cat .entry)) n s))) x ⌝ }
+    ensures { λ r. ⌜ r ≡ existsT at f (refsTo (tablesIn (openOf (now (cat .entry)) n s))) x ⌝ }
 {
     let t = x.ty;
     if cell::kind_of(t) == 1 {
-        Typed::Is(exists(s, cat, n, x))
+        Typed::Is(exists(s, cat, n, f, x))
     } else {
         Typed::Refused(9, at)
     }
 }
 
-// VALUE.
-pub fn with_single(s: scope::Scope, cat: &[u8], n: usize, at: usize, x: Known, y: Known) -> Typed
+// VALUE, MAX and MIN.
+pub fn with_single(
+    s: scope::Scope,
+    cat: &[u8],
+    n: usize,
+    at: usize,
+    g: view::Pick,
+    x: Known,
+    y: Known,
+) -> Typed
     requires { ⌜ Opening (now cat) n s ⌝ }
-    ensures { λ r. ⌜ r ≡ singleT at (refsTo (tablesIn (openOf (now (cat .entry)) n s))) x y ⌝ }
+    ensures { λ r. ⌜ r ≡ singleT at g (refsTo (tablesIn (openOf (now (cat .entry)) n s))) x y ⌝ }
 {
-    let t = x.ty;
-    if cell::kind_of(t) == 1 {
-        Typed::Is(single(s, cat, n, x, y))
+    let r = x.ty;
+    let t = y.ty;
+    if cell::kind_of(r) == 1 {
+        match pick_type(g, t) {
+            cell::Judged::Is(u) => Typed::Is(single(s, cat, n, u, x, y)),
+            cell::Judged::Broken => Typed::Refused(9, at),
+        }
     } else {
         Typed::Refused(9, at)
     }

@@ -3,11 +3,13 @@
 mod blocks;
 mod select;
 mod steps;
+mod totals;
 
 pub use select::whole;
+pub use totals::fold_type;
 ghost use mathlib.Core.Path.{_≡_};
-ghost use mathlib.Core.Bool.{Bool};
-ghost use Prim.Native.Nat.{ℕ, _+_};
+ghost use Prim.Native.Nat.{ℕ, _+_, _<_};
+ghost use lib.ListN.{set};
 ghost use Rattle.view.specs.Record.{nodeAt};
 ghost use Rattle.resolve.specs.Claims.{Ready, answerAt, blockNode};
 
@@ -28,6 +30,12 @@ pub struct Known {
     pub classes: usize,
 }
 
+// What is asked of a block: something of its kept rows (EXISTS, COUNT), or one of their values (VALUE, MAX, MIN).
+pub enum Asked {
+    Rows(view::Fold),
+    Values(view::Pick),
+}
+
 // What is known of a class, and how many records its tree takes.
 pub struct Weighed {
     pub info: class::Info,
@@ -39,14 +47,27 @@ pub enum Typed {
     Refused(u16, usize),
 }
 
-// Names and types are right; or a refusal: number and place.
+// The records that several values take, each with its data and its class; or a refusal: number and place.
+pub enum Counted {
+    Records(usize),
+    Refused(u16, usize),
+}
+
+// Of a view: what is known of its where's class, the records of the where's data and of its class, and those of all its values' pairs of data and class.
+pub struct Sums {
+    pub info: class::Info,
+    pub values: usize,
+    pub classes: usize,
+    pub pairs: usize,
+}
+
+// Names and types are right, and so many records; or a refusal: number and place.
 pub enum Verdict {
-    Fine,
+    Fine(Sums),
     Refused(u16, usize),
 }
 
 // A value: names and types, with depth levels left, in the scopes of t that are open.
-// One table serves all its parts, and one answer, so that a level takes little of the stack: the place where LET opens a scope is cleared first.
 pub fn value(
     cat: &[u8],
     starts: &[u16; 32],
@@ -60,20 +81,37 @@ pub fn value(
     requires { ⌜ Ready (now cat) (now starts) (now view) f t deep depth at ⌝ }
     ensures { λ r. ⌜ r ≡ answerAt (now (cat .entry)) (now (view .entry)) f t deep depth at ⌝ }
 {
+    walk(cat, starts, view, f, at, depth, t, deep, 0, t[0])
+}
+
+// A value in the scopes of a table whose entry at a place is s: the table is made here, so that a level holds one table and no more.
+fn walk(
+    cat: &[u8],
+    starts: &[u16; 32],
+    view: &[u8],
+    f: Files,
+    at: usize,
+    depth: usize,
+    t: [scope::Scope; 16],
+    deep: usize,
+    place: usize,
+    s: scope::Scope,
+) -> Typed
+    requires { ⌜ Ready (now cat) (now starts) (now view) f (set t place s) deep depth at × (place < 16) ⌝ }
+    ensures { λ r. ⌜ r ≡ answerAt (now (cat .entry)) (now (view .entry)) f (set t place s) deep depth at ⌝ }
+{
     let next = at + 1;
     let down = depth - 1;
-    let mut w = t;
-    w[deep] = scope::local_scope(0, cell::Type::Null, class::Info::Fixed(0));
-    let u = w;
+    let u = scope::pushed(t, place, s);
     let mut r = Typed::Refused(3, at);
     match view::node_at(view, at) {
         view::Node::Const(ty, _) => Typed::Is(steps::leaf(ty, class::Info::Fixed(f.k), next)),
         view::Node::Binop(op) => {
-            r = value(cat, starts, view, f, next, down, u, deep);
+            r = walk(cat, starts, view, f, next, down, u, deep, place, s);
             match r {
                 Typed::Refused(i, p) => Typed::Refused(i, p),
                 Typed::Is(x) => {
-                    r = value(cat, starts, view, f, x.next, down, u, deep);
+                    r = walk(cat, starts, view, f, x.next, down, u, deep, place, s);
                     match r {
                         Typed::Refused(i, p) => Typed::Refused(i, p),
                         Typed::Is(y) => steps::with_two(at, op, x, y),
@@ -82,22 +120,22 @@ pub fn value(
             }
         }
         view::Node::Not => {
-            r = value(cat, starts, view, f, next, down, u, deep);
+            r = walk(cat, starts, view, f, next, down, u, deep, place, s);
             match r {
                 Typed::Refused(i, p) => Typed::Refused(i, p),
                 Typed::Is(x) => steps::with_not(at, x),
             }
         }
         view::Node::If => {
-            r = value(cat, starts, view, f, next, down, u, deep);
+            r = walk(cat, starts, view, f, next, down, u, deep, place, s);
             match r {
                 Typed::Refused(i, p) => Typed::Refused(i, p),
                 Typed::Is(x) => {
-                    r = value(cat, starts, view, f, x.next, down, u, deep);
+                    r = walk(cat, starts, view, f, x.next, down, u, deep, place, s);
                     match r {
                         Typed::Refused(i, p) => Typed::Refused(i, p),
                         Typed::Is(y) => {
-                            r = value(cat, starts, view, f, y.next, down, u, deep);
+                            r = walk(cat, starts, view, f, y.next, down, u, deep, place, s);
                             match r {
                                 Typed::Refused(i, p) => Typed::Refused(i, p),
                                 Typed::Is(z) => {
@@ -110,12 +148,34 @@ pub fn value(
                 }
             }
         }
-        view::Node::Exists(a) => {
-            r = block(cat, starts, view, f, at, depth, u, deep, a as usize, false);
+        view::Node::Exists(a, q) => {
+            r = block(
+                cat,
+                starts,
+                view,
+                f,
+                at,
+                depth,
+                u,
+                deep,
+                a as usize,
+                Asked::Rows(q),
+            );
             r
         }
-        view::Node::Single(a) => {
-            r = block(cat, starts, view, f, at, depth, u, deep, a as usize, true);
+        view::Node::Single(a, g) => {
+            r = block(
+                cat,
+                starts,
+                view,
+                f,
+                at,
+                depth,
+                u,
+                deep,
+                a as usize,
+                Asked::Values(g),
+            );
             r
         }
         view::Node::Col(name, q) => steps::of_column(at, scope::find(u, cat, f.nc, deep, name, q)),
@@ -124,15 +184,14 @@ pub fn value(
             scope::find(u, cat, f.nc, deep, name, q),
         ),
         view::Node::Let(name) => {
-            r = value(cat, starts, view, f, next, down, u, deep);
+            r = walk(cat, starts, view, f, next, down, u, deep, place, s);
             match r {
                 Typed::Refused(i, p) => Typed::Refused(i, p),
                 Typed::Is(x) => {
                     let ty = x.ty;
                     let info = x.info;
-                    w[deep] = scope::local_scope(name, ty, info);
-                    let u = w;
-                    r = value(cat, starts, view, f, x.next, down, u, deep + 1);
+                    let own = scope::local_scope(name, ty, info);
+                    r = walk(cat, starts, view, f, x.next, down, u, deep + 1, deep, own);
                     match r {
                         Typed::Refused(i, p) => Typed::Refused(i, p),
                         Typed::Is(y) => Typed::Is(steps::with_let(x, y)),
@@ -146,7 +205,7 @@ pub fn value(
     }
 }
 
-// EXISTS, or VALUE where `single` says so: a scope opens over the block's tables, for its where and its value.
+// A block of whose rows or values something is asked: a scope opens over its tables, for its where and its value.
 fn block(
     cat: &[u8],
     starts: &[u16; 32],
@@ -157,9 +216,9 @@ fn block(
     t: [scope::Scope; 16],
     deep: usize,
     count: usize,
-    single: bool,
+    asked: Asked,
 ) -> Typed
-    requires { ⌜ Ready (now cat) (now starts) (now view) f t deep depth at × (nodeAt (now view) at ≡ blockNode single count) ⌝ }
+    requires { ⌜ Ready (now cat) (now starts) (now view) f t deep depth at × (nodeAt (now view) at ≡ blockNode asked count) ⌝ }
     ensures { λ r. ⌜ r ≡ answerAt (now (cat .entry)) (now (view .entry)) f t deep depth at ⌝ }
 {
     let next = at + 1;
@@ -169,20 +228,29 @@ fn block(
         return Typed::Refused(6, o.place);
     }
     let s = o.scope;
-    let u = scope::pushed(t, deep, s);
-    let mut r = value(cat, starts, view, f, next + count, down, u, deep + 1);
+    let mut r = walk(
+        cat,
+        starts,
+        view,
+        f,
+        next + count,
+        down,
+        t,
+        deep + 1,
+        deep,
+        s,
+    );
     match r {
         Typed::Refused(i, p) => Typed::Refused(i, p),
-        Typed::Is(x) => {
-            if single {
-                r = value(cat, starts, view, f, x.next, down, u, deep + 1);
+        Typed::Is(x) => match asked {
+            Asked::Rows(q) => blocks::with_exists(s, cat, f.nc, at, q, x),
+            Asked::Values(g) => {
+                r = walk(cat, starts, view, f, x.next, down, t, deep + 1, deep, s);
                 match r {
                     Typed::Refused(i, p) => Typed::Refused(i, p),
-                    Typed::Is(y) => blocks::with_single(s, cat, f.nc, at, x, y),
+                    Typed::Is(y) => blocks::with_single(s, cat, f.nc, at, g, x, y),
                 }
-            } else {
-                blocks::with_exists(s, cat, f.nc, at, x)
             }
-        }
+        },
     }
 }

@@ -4,11 +4,14 @@ ghost use mathlib.Core.Path.{_≡_};
 ghost use Prim.Native.Nat.{ℕ, _+_};
 ghost use Rattle.catalogue.specs.Tables.{tablesFrom};
 ghost use Rattle.view.specs.Parse.{many, parseBlock, parseValue, parseView};
-ghost use Rattle.scope.specs.Table.{scopesOf};
+ghost use Rattle.scope.specs.Table.{scopesOf, infosOf};
 ghost use Rattle.resolve.specs.Claims.{Accepted, Rooted, Several, resolvedBy, resolvedAll, verdictOf, verdictAll};
+use crate::Counted;
 use crate::Files;
+use crate::Sums;
 use crate::Typed;
 use crate::Verdict;
+use crate::steps::plus;
 use crate::value;
 
 // So many values from record `at` on, under the root's scope alone.
@@ -20,24 +23,26 @@ fn values(
     at: usize,
     t: [scope::Scope; 16],
     count: usize,
-) -> Verdict
+) -> Counted
     requires { ⌜ Several (now cat) (now starts) (now view) f t count at ⌝ }
-    ensures { λ r. ⌜ r ≡ verdictAll (resolvedAll (tablesFrom (now (cat .entry)) (f .nc) (f .nc) 0) (scopesOf (now (cat .entry)) (f .nc) t 1) (many (parseValue (now (view .entry)) (f .n) 15) count at)) ⌝ }
+    ensures { λ r. ⌜ r ≡ verdictAll (f .k) (infosOf t 1) (resolvedAll (tablesFrom (now (cat .entry)) (f .nc) (f .nc) 0) (scopesOf (now (cat .entry)) (f .nc) t 1) (many (parseValue (now (view .entry)) (f .n) 15) count at)) ⌝ }
 {
     let mut m = at;
+    let mut n: usize = 0;
     let mut j: usize = 0;
     while j < count {
         match value(cat, starts, view, f, m, 15, t, 1) {
             Typed::Refused(i, p) => {
-                return Verdict::Refused(i, p);
+                return Counted::Refused(i, p);
             }
             Typed::Is(x) => {
+                n = plus(n, plus(x.values, x.classes));
                 m = x.next;
             }
         }
         j += 1;
     }
-    Verdict::Fine
+    Counted::Records(n)
 }
 
 // The root's block: its tables, its where, its values; last, that the where is boolean.
@@ -50,7 +55,7 @@ fn root(
     count: usize,
 ) -> Verdict
     requires { ⌜ Rooted (now cat) (now starts) (now view) f tables count ⌝ }
-    ensures { λ r. ⌜ r ≡ verdictOf (resolvedBy (tablesFrom (now (cat .entry)) (f .nc) (f .nc) 0) (parseBlock (now (view .entry)) (f .n) 15 (parseValue (now (view .entry)) (f .n) 15) tables count 1)) ⌝ }
+    ensures { λ r. ⌜ r ≡ verdictOf (f .k) (resolvedBy (tablesFrom (now (cat .entry)) (f .nc) (f .nc) 0) (parseBlock (now (view .entry)) (f .n) 15 (parseValue (now (view .entry)) (f .n) 15) tables count 1)) ⌝ }
 {
     let o = scope::open_block(cat, f.nc, starts, f.tables, view, 1, tables);
     if !o.fine {
@@ -61,11 +66,17 @@ fn root(
     match value(cat, starts, view, f, 1 + tables, 15, t, 1) {
         Typed::Refused(i, p) => Verdict::Refused(i, p),
         Typed::Is(x) => match values(cat, starts, view, f, x.next, t, count) {
-            Verdict::Refused(i, p) => Verdict::Refused(i, p),
-            Verdict::Fine => {
+            Counted::Refused(i, p) => Verdict::Refused(i, p),
+            Counted::Records(pairs) => {
                 let ty = x.ty;
+                let info = x.info;
                 if cell::kind_of(ty) == 1 {
-                    Verdict::Fine
+                    Verdict::Fine(Sums {
+                        info,
+                        values: x.values,
+                        classes: x.classes,
+                        pairs,
+                    })
                 } else {
                     Verdict::Refused(9, 0)
                 }
@@ -74,10 +85,10 @@ fn root(
     }
 }
 
-// A whole view, whose structure was taken: its names and types.
+// A whole view, whose structure was taken: its names and types, and how many records its parts take.
 pub fn whole(cat: &[u8], starts: &[u16; 32], view: &[u8], f: Files) -> Verdict
     requires { ⌜ Accepted (now cat) (now starts) (now view) f ⌝ }
-    ensures { λ r. ⌜ r ≡ verdictOf (resolvedBy (tablesFrom (now (cat .entry)) (f .nc) (f .nc) 0) (parseView (now (view .entry)))) ⌝ }
+    ensures { λ r. ⌜ r ≡ verdictOf (f .k) (resolvedBy (tablesFrom (now (cat .entry)) (f .nc) (f .nc) 0) (parseView (now (view .entry)))) ⌝ }
 {
     let node = view::node_at(view, 0);
     let view::Node::Select(a, b) = node else {

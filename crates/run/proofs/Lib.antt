@@ -1,5 +1,5 @@
 -- Laws of the run: Encodes says that what was written stands, Ends, Records, Lays and Holding how it is read into words; Scoping, Opening and
--- Kept what words hold; Shapes, Nodes, Known, Products, Blocks, Turns and Levels the run; the others the answer. Assumes nothing.
+-- Kept and Totals what words hold; Shapes, Nodes, Known, Products, Blocks, Turns and Levels the run; the others the answer. Assumes nothing.
 pub mod Encodes
 pub mod Ends
 pub mod Records
@@ -8,6 +8,7 @@ pub mod Holding
 pub mod Scoping
 pub mod Opening
 pub mod Kept
+pub mod Totals
 pub mod Shapes
 pub mod Nodes
 pub mod Known

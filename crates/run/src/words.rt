@@ -5,7 +5,7 @@ ghost use Prim.Native.Nat.{_+_, _*_, _<_, _≤_};
 ghost use lib.ListN.{length, getD};
 ghost use Rattle.store.specs.Layout.{filesOf};
 ghost use Rattle.store.specs.declared.Verdict.the-variants.{Fine};
-ghost use Rattle.run.specs.Words.{kindIn, opIn, aIn, bIn, cIn, PartsAre, two, three, endOf, EndsAre, partB, partC, WordFor, LayIs, LaysAre, WordsAre};
+ghost use Rattle.run.specs.Words.{kindIn, opIn, aIn, bIn, cIn, PartsAre, two, three, folds, picks, endOf, EndsAre, partB, partC, WordFor, LayIs, LaysAre, WordsAre};
 
 // The parts of a word.
 pub fn kind_in(w: u64) -> u64
@@ -68,6 +68,19 @@ fn has_three(kind: u8) -> bool
     (kind == 9) | (kind == 24)
 }
 
+// Whether a kind is that of a block with one tree after its tables, or with two.
+fn is_fold(kind: u8) -> bool
+    ensures { λ r. ⌜ r ≡ folds kind ⌝ }
+{
+    (kind == 10) | ((kind == 27) | (kind == 28))
+}
+
+fn is_pick(kind: u8) -> bool
+    ensures { λ r. ⌜ r ≡ picks kind ⌝ }
+{
+    (kind == 11) | ((kind == 29) | (kind == 30))
+}
+
 pub fn end_at(ends: &[u16; 8192], i: usize) -> u16
     requires { ⌜ length (now ends) ≡ 8192 ⌝ }
     ensures { λ r. ⌜ r ≡ getD (now (ends .entry)) i 0 ⌝ }
@@ -100,10 +113,10 @@ fn end_of(code: &[u8], ends: &[u16; 8192], i: usize) -> u16
         return end_at(ends, next);
     }
     let body = next + index(word::a_at(code, i));
-    if (kind == 10) | (kind == 27) {
+    if is_fold(kind) {
         return end_at(ends, body);
     }
-    if kind == 11 {
+    if is_pick(kind) {
         return second_end(ends, body);
     }
     next as u16
@@ -134,7 +147,7 @@ fn part_b(code: &[u8], ends: &[u16; 8192], i: usize) -> u16
     if has_two(kind) | has_three(kind) {
         return end_at(ends, next);
     }
-    if kind == 11 {
+    if is_pick(kind) {
         return end_at(ends, next + index(word::a_at(code, i)));
     }
     word::b_at(code, i)

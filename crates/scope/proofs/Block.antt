@@ -17,6 +17,7 @@ use Rattle.class.specs.declared.Info.{Info}
 use Rattle.class.specs.declared.Info.the-variants.{Fixed}
 use Rattle.catalogue.specs.Tables.{Table, TabRef, tableAt}
 use Rattle.scope.specs.Scopes.{block, local}
+use Rattle.scope.specs.Words.{nameIn, typeIn}
 use Rattle.scope.specs.Table.{tabsAt, openOf}
 use Rattle.scope.specs.Blocks.{opened}
 use Rattle.scope.specs.Entry.{tablesIn, rowsOf, classesOf, Among}
@@ -45,41 +46,41 @@ module _ {A : Type 0} (f : Table → A) (d : A) (c : List ℕ) (n : ℕ) (ws : L
   field-past i (suc k) (suc j) h = field-past (i + 1) k j (omega arith)
 
 module _ (c : List ℕ) (n : ℕ) (s : Scope) where
-  pub tables-in : tablesIn (openOf c n s) ≡ tabsAt c n (s .tables) 0 (min (s .count) 4)
+  pub tables-in : tablesIn (openOf c n s) ≡ tabsAt c n (s .words) 0 (min (s .count) 4)
   unfolding openOf
   tables-in = go (eqb (s .count) 0) refl
     where
-      go : (b : Bool) → eqb (s .count) 0 ≡ b → tablesIn (cond b (local (s .name) (s .ty)) (block (tabsAt c n (s .tables) 0 (min (s .count) 4)))) ≡ tabsAt c n (s .tables) 0 (min (s .count) 4)
+      go : (b : Bool) → eqb (s .count) 0 ≡ b → tablesIn (cond b (local (nameIn s) (typeIn s)) (block (tabsAt c n (s .words) 0 (min (s .count) 4)))) ≡ tabsAt c n (s .words) 0 (min (s .count) 4)
       go true e = unfold tablesIn tabsAt in rw (eqb-true (s .count) 0 e)
       go false e = unfold tablesIn in refl
 
   -- a record that an entry names is among those of the catalogue
-  pub table-room : (j t : ℕ) → Among n s → 8 + 8 * n ≤ length c → t ≡ getD (s .tables) j 0 → 8 + 8 * t + 8 ≤ length c
+  pub table-room : (j t : ℕ) → Among n s → 8 + 8 * n ≤ length c → t ≡ getD (s .words) j 0 → 8 + 8 * t + 8 ≤ length c
   table-room j t a h e = omega (arith, a .below j)
 
   module _ (m : ℕ) (l : (m ≡ min (s .count) 4) × (m ≤ 4)) where
-    module _ (j t : ℕ) (h : j < m) (e : t ≡ getD (s .tables) j 0) where
+    module _ (j t : ℕ) (h : j < m) (e : t ≡ getD (s .words) j 0) where
       pub row-here : (r : Info) → r ≡ infoBy (opAt c t) (bAt c t) → r ≡ getD (rowsOf (tablesIn (openOf c n s))) j (Fixed 0)
       unfolding tableAt
-      row-here r x = x ∙ rw (e, tables-in, field-first (λ u. u .row) (Fixed 0) c n (s .tables) (min (s .count) 4) j (omega arith))
+      row-here r x = x ∙ rw (e, tables-in, field-first (λ u. u .row) (Fixed 0) c n (s .words) (min (s .count) 4) j (omega arith))
 
       pub class-here : (r : ℕ) → r ≡ cAt c t → r ≡ getD (classesOf (tablesIn (openOf c n s))) j 0
       unfolding tableAt
-      class-here r x = x ∙ rw (e, tables-in, field-first (λ u. u .tclass) 0 c n (s .tables) (min (s .count) 4) j (omega arith))
+      class-here r x = x ∙ rw (e, tables-in, field-first (λ u. u .tclass) 0 c n (s .words) (min (s .count) 4) j (omega arith))
 
     module _ (j : ℕ) (h : m ≤ j) where
       pub row-past : Fixed 0 ≡ getD (rowsOf (tablesIn (openOf c n s))) j (Fixed 0)
-      row-past = rw tables-in (sym (field-past (λ u. u .row) (Fixed 0) c n (s .tables) 0 (min (s .count) 4) j (omega arith)))
+      row-past = rw tables-in (sym (field-past (λ u. u .row) (Fixed 0) c n (s .words) 0 (min (s .count) 4) j (omega arith)))
 
       pub class-past : 0 ≡ getD (classesOf (tablesIn (openOf c n s))) j 0
-      class-past = rw tables-in (sym (field-past (λ u. u .tclass) 0 c n (s .tables) 0 (min (s .count) 4) j (omega arith)))
+      class-past = rw tables-in (sym (field-past (λ u. u .tclass) 0 c n (s .words) 0 (min (s .count) 4) j (omega arith)))
 
   -- the lub of the classes from table j on
   unfoldable pub lubLeft : ℕ → ℕ
   lubLeft j = lubAll (drop j (classesOf (tablesIn (openOf c n s))))
 
   classes-number : length (classesOf (tablesIn (openOf c n s))) ≡ min (s .count) 4
-  classes-number = rw tables-in (field-length (λ u. u .tclass) 0 c n (s .tables) 0 (min (s .count) 4))
+  classes-number = rw tables-in (field-length (λ u. u .tclass) 0 c n (s .words) 0 (min (s .count) 4))
 
   pub lub-begin : (m : ℕ) → (m ≡ min (s .count) 4) × (m ≤ 4) → 0 ≡ lubLeft m
   unfolding lubLeft

@@ -22,14 +22,14 @@ use Rattle.scope.specs.declared.Found.the-variants as F
 use Rattle.scope.proofs.Hits.{plus-none, plus-assoc, hit-append}
 
 -- one column
-module _ (c : List ℕ) (i name x y k : ℕ) (row : Info) (h r : Found) (w : ℕ) (e : w ≡ aAt c i) where
-  pub column-yes : (t : Ty) (j : Info) → w ≡ name → t ≡ columnAt c i .ty → j ≡ infoBy (opAt c i) (bAt c i) → r ≡ plus h (F.Column x y k t j row)
+module _ (c : List ℕ) (i name x y k : ℕ) (row : Info) (h : Found) (w : ℕ) (e : w ≡ aAt c i) where
+  pub column-yes : (r : Found) (t : Ty) (j : Info) → w ≡ name → t ≡ columnAt c i .ty → j ≡ infoBy (opAt c i) (bAt c i) → r ≡ plus h (F.Column x y k t j row)
       → r ≡ plus h (cond (eqb (aAt c i) name) (F.Column x y k (columnAt c i .ty) (columnAt c i .info) row) F.None)
   unfolding columnAt
-  column-yes t j f g l m = m ∙ rw (g, l, eq-eqb (aAt c i) name (sym e ∙ f))
+  column-yes r t j f g l m = m ∙ rw (g, l, eq-eqb (aAt c i) name (sym e ∙ f))
 
-  pub column-no : (w ≡ name → ⊥) → r ≡ plus h F.None → r ≡ plus h (cond (eqb (aAt c i) name) (F.Column x y k (columnAt c i .ty) (columnAt c i .info) row) F.None)
-  column-no f m = m ∙ rw (ne-eqb (aAt c i) name (λ z. f (e ∙ z)))
+  pub column-no : (w ≡ name → ⊥) → h ≡ plus h (cond (eqb (aAt c i) name) (F.Column x y k (columnAt c i .ty) (columnAt c i .info) row) F.None)
+  column-no f = rw (ne-eqb (aAt c i) name (λ z. f (e ∙ z))) (sym (plus-none h))
 
 -- the columns of a table: what is left of them
 module _ (c : List ℕ) (n t name a b : ℕ) where
@@ -62,22 +62,22 @@ module _ (c : List ℕ) (n t name a b : ℕ) where
     unfolding colsLeft inCols foundIn onlyOf
     cols-done f = sym (e ∙ rw (cols-end c n i f) (plus-none r))
 
-  module _ (q : ℕ) (h r : Found) where
-    pub table-out : n ≤ t → r ≡ plus h F.None → r ≡ plus h (foundIn (Fixed 0) (onlyOf (inTable name q a b (tableAt c n t))))
+  module _ (q : ℕ) (h : Found) where
+    pub table-out : n ≤ t → h ≡ plus h (foundIn (Fixed 0) (onlyOf (inTable name q a b (tableAt c n t))))
     unfolding inTable tableAt
-    table-out e f = let k : n - (t + 1) ≡ 0 = omega arith in f ∙ rw k (go (eqb q 0 || eqb (aAt c t) q) _)
+    table-out e = let k : n - (t + 1) ≡ 0 = omega arith in sym (plus-none h) ∙ rw k (go (eqb q 0 || eqb (aAt c t) q) _)
       where
         go : (x : Bool) (u : Table) → plus h F.None ≡ plus h (foundIn (Fixed 0) (onlyOf (cond x (inCols name a b u 0 (colsFrom c 0 (t + 1))) [])))
         go true u = unfold inCols colsFrom foundIn onlyOf in refl
         go false u = unfold foundIn onlyOf in refl
 
-    pub table-yes : {own : ℕ} → own ≡ aAt c t → (eqb q 0 || eqb own q) ≡ true → r ≡ plus h (foundIn (Fixed 0) (onlyOf (inCols name a b (tableAt c n t) 0 (tableAt c n t .cols))))
+    pub table-yes : {own : ℕ} (r : Found) → own ≡ aAt c t → (eqb q 0 || eqb own q) ≡ true → r ≡ plus h (foundIn (Fixed 0) (onlyOf (inCols name a b (tableAt c n t) 0 (tableAt c n t .cols))))
         → r ≡ plus h (foundIn (Fixed 0) (onlyOf (inTable name q a b (tableAt c n t))))
     unfolding inTable tableAt
-    table-yes e f g = g ∙ rw (rw e at f)
+    table-yes r e f g = g ∙ rw (rw e at f)
 
-    pub table-no : {own : ℕ} → own ≡ aAt c t → (eqb q 0 || eqb own q) ≡ false → r ≡ plus h F.None → r ≡ plus h (foundIn (Fixed 0) (onlyOf (inTable name q a b (tableAt c n t))))
+    pub table-no : {own : ℕ} → own ≡ aAt c t → (eqb q 0 || eqb own q) ≡ false → h ≡ plus h (foundIn (Fixed 0) (onlyOf (inTable name q a b (tableAt c n t))))
     unfolding inTable tableAt foundIn onlyOf
-    table-no e f g = g ∙ rw (rw e at f)
+    table-no e f = rw (rw e at f) (sym (plus-none h))
 
 pub ruleset columns = (column-yes, column-no, cols-begin, cols-again, cols-out, cols-done, table-out, table-yes, table-no, needs)

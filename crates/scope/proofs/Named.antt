@@ -14,17 +14,20 @@ use Rattle.word.specs.Record.{aAt}
 use Rattle.word.proofs.Writing.{put-at, put-after}
 use Rattle.class.specs.declared.Info.the-variants.{Fixed}
 use Rattle.cell.specs.Res.{Res, stuck, done, nth}
+use Rattle.cell.specs.declared.Type.the-variants.{Null}
 use Rattle.catalogue.specs.Tables.{Table, TabRef, tableAt, tablesFrom, tableNamed}
 use Rattle.catalogue.specs.Starts.{startsFrom, StartsAre, refBy}
 use Rattle.catalogue.proofs.Places.{namedIn, find-begin, starts-number, start-is, start-below}
 use Rattle.view.specs.Ast.{TabName}
 use Rattle.view.specs.Record.{nodeAt}
 use Rattle.view.specs.Parse.{nameOf, namesAt}
+use Rattle.scope.specs.Words.{typeIn, infoIn}
 use Rattle.scope.specs.Table.{tabsAt, openOf}
 use Rattle.scope.specs.Blocks.{Tabs, all, missing, before, foundAt, tablesNamed, refsOf, opened}
 use Rattle.scope.specs.Entry.{blockScope, openedAs, missingAt, placesOf, openedBy, Among}
 use Rattle.scope.specs.declared.Scope.{Scope}
 use Rattle.scope.specs.declared.Opened.{Opened}
+use Rattle.scope.proofs.Locals.{block-type, block-info}
 
 -- a table that was looked up: its number is one of the catalogue's, and it is the table of that number's record
 pub record RefIs (c : List ℕ) (n tables : ℕ) (ss : List ℕ) (t : TabRef) : Type 0 where
@@ -128,7 +131,8 @@ module _ (cat : List Table) (v : List ℕ) where
 pub record BlockOpened (c : List ℕ) (n : ℕ) (T : Tabs) (s : Scope) : Type 0 where
   pub found : T ≡ all (refsOf T)
   pub opens : openOf c n s ≡ opened (refsOf T)
-  pub known : s .info ≡ Fixed 0
+  pub untyped : typeIn s ≡ Null
+  pub known : infoIn s ≡ Fixed 0
   pub among : Among n s
   pub counted : s .count ≡ length (refsOf T)
 
@@ -148,7 +152,8 @@ module _ (c : List ℕ) (n tables : ℕ) (ss : List ℕ) (v : List ℕ) (at coun
           unfold openedBy openedAs refsOf in rw y (record {
             found = refl;
             opens = entry-opens c n tables ss a ts r (omega arith) (omega arith);
-            known = unfold blockScope in refl;
+            untyped = block-type (blockScope (put (replicate 4 0) 0 (placesOf ss ts)) (length ts)) (unfold blockScope in omega arith);
+            known = block-info (blockScope (put (replicate 4 0) 0 (placesOf ss ts)) (length ts)) (unfold blockScope in omega arith);
             among = entry-among c n tables ss a ts r (omega arith) (omega arith);
             counted = unfold blockScope in refl;
           })

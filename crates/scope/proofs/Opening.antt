@@ -10,6 +10,7 @@ use borrow.Author.Needs.{needs}
 use borrow.Author.Tests.{lt-ltb, le-ltb}
 use lib.ListN.{getD, length, set}
 use Rattle.word.specs.Buffer.{put}
+use Rattle.class.specs.Info.{boundOf}
 use Rattle.class.specs.declared.Info.{Info}
 use Rattle.class.specs.declared.Info.the-variants.{Fixed}
 use Rattle.cell.specs.Res.{Res}
@@ -20,21 +21,22 @@ use Rattle.catalogue.specs.Starts.{refBy}
 use Rattle.view.specs.Record.{nodeAt}
 use Rattle.view.specs.Parse.{nameOf, namesAt}
 use Rattle.view.specs.declared.Node.{Node}
+use Rattle.scope.specs.Words.{shapeOf, numberOf, wordsOf}
 use Rattle.scope.specs.Blocks.{Tabs, all, missing, before, foundAt, tablesNamed}
 use Rattle.scope.specs.Entry.{localScope, blockScope, missingAt, openedAs, placesOf, openedBy}
 use Rattle.scope.specs.declared.Scope.{Scope}
 use Rattle.scope.specs.declared.Opened.{Opened}
 
 -- the structs that the code makes
-pub local-made : (m : ℕ) (t : Ty) (i : Info) → record { count = 0; tables = 0 ∷ 0 ∷ 0 ∷ 0 ∷ []; name = m; ty = t; info = i } ≡ localScope m t i
-unfolding localScope
-local-made m t i = refl
+pub local-made : (m : ℕ) (t : Ty) (i : Info) (x y k : ℕ) → x ≡ shapeOf t i → y ≡ numberOf t → k ≡ boundOf i → record { count = 0; words = m ∷ x ∷ y ∷ k ∷ [] } ≡ localScope m t i
+unfolding localScope wordsOf
+local-made m t i x y k e f g = rw (e, f, g)
 
 pub missing-made : (p : ℕ) (s : Scope) → s ≡ localScope 0 T.Null (Fixed 0) → record { fine = false; place = p; scope = s } ≡ missingAt p
 unfolding missingAt
 missing-made p s e = rw e
 
-pub opened-made : (ws : List ℕ) (k : ℕ) → record { fine = true; place = 0; scope = record { count = k; tables = ws; name = 0; ty = T.Null; info = Fixed 0 } } ≡ openedAs ws k
+pub opened-made : (ws : List ℕ) (k : ℕ) → record { fine = true; place = 0; scope = record { count = k; words = ws } } ≡ openedAs ws k
 unfolding openedAs blockScope
 opened-made ws k = refl
 

@@ -11,10 +11,12 @@ use Rattle.class.specs.declared.Info.{Info}
 use Rattle.class.specs.declared.Info.the-variants.{Fixed}
 use Rattle.cell.specs.declared.Type.{«Type» as Ty}
 use Rattle.scope.specs.Scopes.{local}
+use Rattle.scope.specs.Words.{infoIn}
 use Rattle.scope.specs.Table.{openOf, blank, scopesOf, infosOf}
 use Rattle.scope.specs.Blocks.{Tabs, refsOf, opened}
 use Rattle.scope.specs.Entry.{localScope}
 use Rattle.scope.specs.declared.Scope.{Scope}
+use Rattle.scope.proofs.Locals.{local-info, local-opens}
 use Rattle.scope.proofs.Named.{BlockOpened}
 
 -- what stands further out stays
@@ -38,17 +40,17 @@ module _ (c : List ℕ) (n : ℕ) (t u : List Scope) (d : ℕ) (s : Scope) (e : 
     unfolding scopesOf
     push-scopes = rw (e, add-one d, getD-set-same t d s blank (omega arith), scopes-set c n t d d s (omega arith))
 
-    pub push-infos : infosOf u (d + 1) ≡ s .info ∷ infosOf t d
+    pub push-infos : infosOf u (d + 1) ≡ infoIn s ∷ infosOf t d
     unfolding infosOf
     push-infos = rw (e, add-one d, getD-set-same t d s blank (omega arith), infos-set t d d s (omega arith))
 
     -- a local's
     module _ (m : ℕ) (ty : Ty) (i : Info) (y : s ≡ localScope m ty i) where
       pub local-scopes : scopesOf c n u (d + 1) ≡ local m ty ∷ scopesOf c n t d
-      local-scopes = push-scopes ∙ rw y (unfold openOf localScope in refl)
+      local-scopes = push-scopes ∙ rw (y, local-opens)
 
       pub local-infos : infosOf u (d + 1) ≡ i ∷ infosOf t d
-      local-infos = push-infos ∙ rw y (unfold localScope in refl)
+      local-infos = push-infos ∙ rw (y, local-info)
 
     -- a block's
     module _ (T : Tabs) (b : BlockOpened c n T s) where

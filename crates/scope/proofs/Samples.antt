@@ -6,13 +6,14 @@ use mathlib.Core.List.{List, [], _∷_, _++_, map}
 use Rattle.word.specs.Bytes.{le16}
 use Rattle.word.specs.Header.{drc, header}
 use Rattle.word.specs.Record.{recBytes}
-use Rattle.class.specs.Info.{infoBy}
+use Rattle.class.specs.Info.{infoBy, boundOf}
 use Rattle.class.specs.declared.Info.the-variants.{Fixed, Bound}
-use Rattle.cell.specs.Types.{typeBy}
+use Rattle.cell.specs.Types.{typeBy, kindOf, digitsOf, scaleOf, formatOf}
 use Rattle.cell.specs.declared.Type.the-variants as T
 use Rattle.catalogue.specs.Tables.{columnAt, colsFrom, tableAt}
 use Rattle.scope.specs.Scopes.{onlyOf, inCols, inTable, inTabs, inScope, nearest, find}
 use Rattle.scope.specs.Table.{tabsAt, openOf, scopesOf, infosOf, foundOf}
+use Rattle.scope.specs.Words.{raised, lowered, markOf, kindScale, shapeOf, numberOf, wordsOf, typeFrom, nameIn, typeIn, infoIn}
 use Rattle.scope.specs.Entry.{localScope, blockScope}
 use Rattle.scope.specs.declared.Scope.{Scope}
 use Rattle.scope.specs.declared.Found.{Found}
@@ -39,7 +40,7 @@ abbrev let21 : Scope
 let21 = localScope 21 T.Class (Bound 3)
 
 abbrev let22 : Scope
-let22 = localScope 22 T.Null (Fixed 5)
+let22 = localScope 22 (T.Fixed 9 4) (Fixed 5)
 
 -- a name, bare or qualified, among open scopes, the outermost first
 pub record Question : Type 0 where
@@ -83,12 +84,12 @@ pub names-found : map answer (
     ∷ F.Column 0 0 1 T.Boolean (Bound 8193) (Bound 4096)
     ∷ F.Column 1 0 0 T.Boolean (Fixed 1) (Fixed 0)
     ∷ F.Local 0 T.Class (Bound 3)
-    ∷ F.Local 1 T.Null (Fixed 5)
+    ∷ F.Local 1 (T.Fixed 9 4) (Fixed 5)
     ∷ F.Column 0 0 1 T.Class (Fixed 0) (Fixed 0)
     ∷ F.Column 1 0 1 T.Boolean (Bound 8193) (Bound 4096)
     ∷ F.Ambiguous
     ∷ F.None
     ∷ F.None
     ∷ []
-unfolding header le16 recBytes typeBy infoBy columnAt colsFrom tableAt onlyOf inCols inTable inTabs inScope nearest find tabsAt openOf scopesOf infosOf foundOf localScope blockScope
+unfolding header le16 recBytes typeBy infoBy columnAt colsFrom tableAt onlyOf inCols inTable inTabs inScope nearest find tabsAt openOf scopesOf infosOf foundOf localScope blockScope wordsOf shapeOf kindScale markOf numberOf raised lowered kindOf digitsOf scaleOf formatOf boundOf typeFrom nameIn typeIn infoIn
 names-found = refl

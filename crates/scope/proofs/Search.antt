@@ -1,6 +1,6 @@
 -- What an entry has for a name, and the search from the innermost scope outward: one law for each place of the code.
 -- Assumes nothing.
-use Prim.Native.Nat.{ℕ, zero, suc, _+_, _-_, _<_, _≤_, min}
+use Prim.Native.Nat.{ℕ, zero, suc, _+_, _-_, _/_, _%_, _<_, _≤_, min}
 use mathlib.Core.Path.{_≡_, refl, sym, subst, _∙_}
 use mathlib.Core.Bool.{true, false, not, _&&_}
 use mathlib.Core.List.{List, _∷_}
@@ -9,10 +9,13 @@ use borrow.Author.Needs.{needs}
 use borrow.Author.Tests.{ne-eqb}
 use lib.ListN.{getD}
 use lib.Dec.{T as Holds, eqb}
+use Rattle.class.specs.Info.{infoBy}
 use Rattle.class.specs.declared.Info.{Info}
 use Rattle.class.specs.declared.Info.the-variants.{Fixed}
+use Rattle.cell.specs.declared.Type.{«Type» as Ty}
 use Rattle.catalogue.specs.Tables.{tableAt}
 use Rattle.scope.specs.Scopes.{Hit, column, bound, Only, none, one, more, onlyOf, inTable, inTabs, inScope, nearest, find}
+use Rattle.scope.specs.Words.{typeFrom, nameIn, typeIn, infoIn}
 use Rattle.scope.specs.Table.{tabsAt, openOf, blank, scopesOf, infosOf, foundOf}
 use Rattle.scope.specs.Match.{foundIn, isFound, plus}
 use Rattle.scope.specs.declared.Scope.{Scope}
@@ -45,18 +48,19 @@ module _ (c : List ℕ) (n : ℕ) (ws : List ℕ) (count name q a : ℕ) where
 
 -- one entry
 module _ (c : List ℕ) (n : ℕ) (s : Scope) (name q a : ℕ) where
-  pub local-yes : s .count ≡ 0 → (eqb q 0 && eqb (s .name) name) ≡ true → F.Local a (s .ty) (s .info) ≡ foundIn (s .info) (onlyOf (inScope name q a (openOf c n s)))
-  unfolding openOf inScope foundIn onlyOf
-  local-yes e f = rw (e, f)
+  pub local-yes : (t : Ty) (i : Info) → s .count ≡ 0 → (eqb q 0 && eqb (getD (s .words) 0 0) name) ≡ true → t ≡ typeFrom (getD (s .words) 1 0) (getD (s .words) 2 0) → i ≡ infoBy (getD (s .words) 1 0 / 8 % 2) (getD (s .words) 3 0)
+      → F.Local a t i ≡ foundIn (infoIn s) (onlyOf (inScope name q a (openOf c n s)))
+  unfolding openOf nameIn typeIn infoIn inScope foundIn onlyOf
+  local-yes t i e f g h = rw (e, f, g, h)
 
-  pub local-no : s .count ≡ 0 → (eqb q 0 && eqb (s .name) name) ≡ false → F.None ≡ foundIn (s .info) (onlyOf (inScope name q a (openOf c n s)))
-  unfolding openOf inScope foundIn onlyOf
+  pub local-no : s .count ≡ 0 → (eqb q 0 && eqb (getD (s .words) 0 0) name) ≡ false → F.None ≡ foundIn (infoIn s) (onlyOf (inScope name q a (openOf c n s)))
+  unfolding openOf nameIn inScope foundIn onlyOf
   local-no e f = rw (e, f)
 
-  pub block-whole : (m : ℕ) (r : Found) → (s .count ≡ 0 → ⊥) → (m ≡ min (s .count) 4) × (m ≤ 4) → r ≡ foundIn (Fixed 0) (onlyOf (inTabs name q a 0 (tabsAt c n (s .tables) 0 m)))
-      → r ≡ foundIn (s .info) (onlyOf (inScope name q a (openOf c n s)))
+  pub block-whole : (m : ℕ) (r : Found) → (s .count ≡ 0 → ⊥) → (m ≡ min (s .count) 4) × (m ≤ 4) → r ≡ foundIn (Fixed 0) (onlyOf (inTabs name q a 0 (tabsAt c n (s .words) 0 m)))
+      → r ≡ foundIn (infoIn s) (onlyOf (inScope name q a (openOf c n s)))
   unfolding openOf inScope
-  block-whole m r e f g = g ∙ any-class (Fixed 0) (s .info) name q a 0 (tabsAt c n (s .tables) 0 m) ∙ rw (ne-eqb _ _ e, f .0)
+  block-whole m r e f g = g ∙ any-class (Fixed 0) (infoIn s) name q a 0 (tabsAt c n (s .words) 0 m) ∙ rw (ne-eqb _ _ e, f .0)
 
 pub ruleset entries = (tabs-begin, tabs-again, tabs-done, local-yes, local-no, block-whole, needs)
 
@@ -76,7 +80,7 @@ near-none is more y e = absurd e
 
 module _ (t : List Scope) where
   -- the class of the scope that is a outward
-  info-outward : (d a : ℕ) → a < d → getD (infosOf t d) a (Fixed 0) ≡ getD t (d - (a + 1)) blank .info
+  info-outward : (d a : ℕ) → a < d → getD (infosOf t d) a (Fixed 0) ≡ infoIn (getD t (d - (a + 1)) blank)
   unfolding infosOf
   info-outward zero a h = absurd (omega arith)
   info-outward (suc d) zero h = let e : suc d - (0 + 1) ≡ d = omega arith in rw e
@@ -96,7 +100,7 @@ module _ (t : List Scope) where
     scope-next (suc d) h = let e : suc d - 1 ≡ d = omega arith in rw e
 
     module _ (a d : ℕ) (X : Found) (e : X ≡ scopesLeft a d) where
-      module _ (h : Found) (f : 0 < d) (l : a + d ≡ depth) (g : h ≡ foundIn (getD t (d - 1) blank .info) (onlyOf (inScope name q a (openOf c n (getD t (d - 1) blank))))) where
+      module _ (h : Found) (f : 0 < d) (l : a + d ≡ depth) (g : h ≡ foundIn (infoIn (getD t (d - 1) blank)) (onlyOf (inScope name q a (openOf c n (getD t (d - 1) blank))))) where
         here : h ≡ foundOf (infosOf t depth) (onlyOf (inScope name q a (openOf c n (getD t (d - 1) blank))))
         here = let m : depth - (a + 1) ≡ d - 1 = omega arith in g ∙ rw (same-scope (infosOf t depth) name q a, info-outward depth a (omega arith), m)
 

@@ -11,17 +11,18 @@ use Rattle.cell.specs.declared.Type.{«Type» as Ty}
 use Rattle.cell.specs.declared.Type.the-variants as T
 use Rattle.catalogue.specs.Tables.{Table, TabRef}
 use Rattle.scope.specs.Scopes.{Open, block, local}
+use Rattle.scope.specs.Words.{wordsOf}
 use Rattle.scope.specs.Blocks.{Tabs, all, missing}
 use Rattle.scope.specs.declared.Scope.{Scope}
 use Rattle.scope.specs.declared.Opened.{Opened}
 
 -- a local's entry
 unfoldable pub localScope : ℕ → Ty → Info → Scope
-localScope m t i = record { count = 0; tables = replicate 4 0; name = m; ty = t; info = i }
+localScope m t i = record { count = 0; words = wordsOf m t i }
 
 -- the entry of so many tables, by the numbers of their records
 unfoldable pub blockScope : List ℕ → ℕ → Scope
-blockScope ws k = record { count = k; tables = ws; name = 0; ty = T.Null; info = Fixed 0 }
+blockScope ws k = record { count = k; words = ws }
 
 -- the code's answer: a block opened, or the place of the first table that is not in the catalogue
 unfoldable pub openedAs : List ℕ → ℕ → Opened
@@ -53,4 +54,4 @@ classesOf ts = map (λ t. t .tclass) ts
 
 -- the records that an entry names are among n
 pub record Among (n : ℕ) (s : Scope) : Type 0 where
-  pub below : (j : ℕ) → getD (s .tables) j 0 < n
+  pub below : (j : ℕ) → getD (s .words) j 0 < n

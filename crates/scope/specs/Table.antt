@@ -7,9 +7,9 @@ use lib.ListN.{getD}
 use lib.Dec.{eqb}
 use Rattle.class.specs.declared.Info.{Info}
 use Rattle.class.specs.declared.Info.the-variants.{Fixed}
-use Rattle.cell.specs.declared.Type.the-variants as T
 use Rattle.catalogue.specs.Tables.{Table, tableAt}
 use Rattle.scope.specs.Scopes.{Open, block, local, Hit, column, bound, Only, none, one, more}
+use Rattle.scope.specs.Words.{nameIn, typeIn, infoIn}
 use Rattle.scope.specs.declared.Scope.{Scope}
 use Rattle.scope.specs.declared.Found.{Found}
 use Rattle.scope.specs.declared.Found.the-variants as F
@@ -21,11 +21,11 @@ tabsAt c n ws i (suc k) = tableAt c n (getD ws i 0) ∷ tabsAt c n ws (i + 1) k
 
 -- what an entry says
 unfoldable pub openOf : List ℕ → ℕ → Scope → Open
-openOf c n s = cond (eqb (s .count) 0) (local (s .name) (s .ty)) (block (tabsAt c n (s .tables) 0 (min (s .count) 4)))
+openOf c n s = cond (eqb (s .count) 0) (local (nameIn s) (typeIn s)) (block (tabsAt c n (s .words) 0 (min (s .count) 4)))
 
 -- no entry
 abbrev pub blank : Scope
-blank = record { count = 0; tables = 0 ∷ 0 ∷ 0 ∷ 0 ∷ []; name = 0; ty = T.Null; info = Fixed 0 }
+blank = record { count = 0; words = 0 ∷ 0 ∷ 0 ∷ 0 ∷ [] }
 
 -- the open scopes, the innermost first: d entries of the table
 unfoldable pub scopesOf : List ℕ → ℕ → List Scope → ℕ → List Open
@@ -35,7 +35,7 @@ scopesOf c n ws (suc d) = openOf c n (getD ws d blank) ∷ scopesOf c n ws d
 -- what is known of each scope's class: of a local's; a block has none of its own
 unfoldable pub infosOf : List Scope → ℕ → List Info
 infosOf ws zero = []
-infosOf ws (suc d) = getD ws d blank .info ∷ infosOf ws d
+infosOf ws (suc d) = infoIn (getD ws d blank) ∷ infosOf ws d
 
 -- the code's answer
 unfoldable pub foundOf : List Info → Only Hit → Found

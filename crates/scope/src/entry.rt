@@ -16,19 +16,18 @@ use crate::Opened;
 use crate::Scope;
 use crate::four;
 use crate::index;
+use crate::words::number_of;
+use crate::words::shape_of;
 
 // A local: its name, its type, what is known of its class.
 pub fn local_scope(name: u16, ty: cell::Type, info: class::Info) -> Scope
     ensures { λ r. ⌜ r ≡ localScope name ty info ⌝ }
 {
-    let tables = [0u16; 4];
-    Scope {
-        count: 0,
-        tables,
-        name,
-        ty,
-        info,
-    }
+    let shape = shape_of(ty, info);
+    let number = number_of(ty);
+    let k = class::bound_of(info);
+    let words = [name, shape, number, k];
+    Scope { count: 0, words }
 }
 
 // A table isn't in the catalogue.
@@ -44,18 +43,13 @@ fn missing(place: usize) -> Opened
 }
 
 // A block of so many tables, by the numbers of their records.
-fn opened(tables: [u16; 4], count: usize) -> Opened
+fn opened(words: [u16; 4], count: usize) -> Opened
     requires { ⌜ count ≤ 4 ⌝ }
-    ensures { λ r. ⌜ r ≡ openedAs tables count ⌝ }
+    ensures { λ r. ⌜ r ≡ openedAs words count ⌝ }
 {
-    let ty = cell::Type::Null;
-    let info = class::Info::Fixed(0);
     let scope = Scope {
         count: count as u16,
-        tables,
-        name: 0,
-        ty,
-        info,
+        words,
     };
     Opened {
         fine: true,
@@ -73,8 +67,8 @@ fn name_of(node: view::Node) -> u16
         view::Node::Binop(_) => 0,
         view::Node::Not => 0,
         view::Node::If => 0,
-        view::Node::Exists(_) => 0,
-        view::Node::Single(_) => 0,
+        view::Node::Exists(_, _) => 0,
+        view::Node::Single(_, _) => 0,
         view::Node::Table(name) => name,
         view::Node::Select(_, _) => 0,
         view::Node::Col(_, _) => 0,
@@ -139,9 +133,9 @@ pub fn row_info(s: Scope, cat: &[u8], n: usize, j: usize) -> class::Info
     requires { ⌜ Among n s ⌝ }
     ensures { λ r. ⌜ r ≡ getD (rowsOf (tablesIn (openOf (now (cat .entry)) n s))) j (Fixed 0) ⌝ }
 {
-    let tables = s.tables;
+    let words = s.words;
     if j < four(s.count) {
-        let t = index(tables[j]);
+        let t = index(words[j]);
         return catalogue::info_at(cat, t);
     }
     class::Info::Fixed(0)
@@ -153,9 +147,9 @@ pub fn table_class_at(s: Scope, cat: &[u8], n: usize, j: usize) -> u16
     requires { ⌜ Among n s ⌝ }
     ensures { λ r. ⌜ r ≡ getD (classesOf (tablesIn (openOf (now (cat .entry)) n s))) j 0 ⌝ }
 {
-    let tables = s.tables;
+    let words = s.words;
     if j < four(s.count) {
-        let t = index(tables[j]);
+        let t = index(words[j]);
         return word::c_at(cat, t);
     }
     0

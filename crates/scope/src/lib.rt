@@ -2,6 +2,7 @@
 // The definitions are in specs/: Scopes has the rule of names, Table what an entry says, Blocks a block's tables.
 mod entry;
 mod lent;
+mod words;
 
 pub use entry::block_class;
 pub use entry::local_scope;
@@ -22,15 +23,15 @@ ghost use Rattle.catalogue.specs.Tables.{columnAt, tableAt};
 ghost use Rattle.scope.specs.Scopes.{onlyOf, inCols, inTable, inTabs, inScope, find};
 ghost use Rattle.scope.specs.Table.{tabsAt, openOf, scopesOf, infosOf, foundOf};
 ghost use Rattle.scope.specs.Match.{foundIn, isFound, plus};
+ghost use Rattle.scope.specs.Words.{infoIn};
+use words::info_from;
+use words::type_from;
 
-// One entry: a block's tables, by the numbers of their records in the catalogue; or, where there are none, a local:
-// its name, its type, what is known of its class.
+// One entry, ten bytes: a block's tables, 1 to 4, by the numbers of their records in the catalogue; or, where there are none,
+// a local: its name, its type and what is known of its class, as specs/Words has them.
 pub struct Scope {
     pub count: u16,
-    pub tables: [u16; 4],
-    pub name: u16,
-    pub ty: cell::Type,
-    pub info: class::Info,
+    pub words: [u16; 4],
 }
 
 // What a name finds. A column: scopes outward, table in block, column, its type, what is known of its cells' class and of its row's.
@@ -99,7 +100,7 @@ fn in_column(
         let info = catalogue::info_at(cat, i);
         return plus(h, Found::Column(a, b, c, ty, info, row));
     }
-    plus(h, Found::None)
+    h
 }
 
 // The columns of the table of record t; h is what was found before them.
@@ -129,13 +130,13 @@ fn in_table(cat: &[u8], n: usize, t: usize, name: u16, q: u16, a: u16, b: u16, h
     ensures { λ r. ⌜ r ≡ plus h (foundIn (Fixed 0) (onlyOf (inTable name q a b (tableAt (now (cat .entry)) n t)))) ⌝ }
 {
     if n <= t {
-        return plus(h, Found::None);
+        return h;
     }
     let own = word::a_at(cat, t);
     if (q == 0) | (own == q) {
         return in_cols(cat, n, t, name, a, b, h);
     }
-    plus(h, Found::None)
+    h
 }
 
 // At most four.
@@ -172,20 +173,20 @@ fn in_block(
 // What one entry has for a name.
 fn in_scope(s: Scope, cat: &[u8], n: usize, name: u16, q: u16, a: u16) -> Found
     requires { ⌜ (8 + 8 * n ≤ length (now cat)) × (n ≤ 2080) ⌝ }
-    ensures { λ r. ⌜ r ≡ foundIn (s .info) (onlyOf (inScope name q a (openOf (now (cat .entry)) n s))) ⌝ }
+    ensures { λ r. ⌜ r ≡ foundIn (infoIn s) (onlyOf (inScope name q a (openOf (now (cat .entry)) n s))) ⌝ }
 {
     let count = s.count;
+    let words = s.words;
     if count == 0 {
-        let own = s.name;
+        let own = words[0];
         if (q == 0) & (own == name) {
-            let ty = s.ty;
-            let info = s.info;
+            let ty = type_from(words[1], words[2]);
+            let info = info_from(words[1], words[3]);
             return Found::Local(a, ty, info);
         }
         return Found::None;
     }
-    let tables = s.tables;
-    in_block(tables, four(count), cat, n, name, q, a)
+    in_block(words, four(count), cat, n, name, q, a)
 }
 
 // The table with one more scope open: it is lent to `push` for one call.

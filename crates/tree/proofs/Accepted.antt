@@ -2,38 +2,45 @@
 -- nd is the node that a pass took from record `at`; m and l are the places that it holds after the first and the second part. Assumes nothing.
 use Prim.Native.Nat.{ℕ, _+_, _-_, _<_, _≤_}
 use mathlib.Core.Path.{_≡_, refl, sym, ap, ap₂, _∙_, subst}
-use mathlib.Core.Bool.{Bool, true, false}
+use mathlib.Core.Bool.{true}
 use mathlib.Core.List.{List, _∷_}
 use native.Mathlib.Omega.{arith}
 use lib.ListN.{length, getD, set}
 use Rattle.class.specs.declared.Info.the-variants.{Fixed}
-use Rattle.cell.specs.Types.{digitsOf}
+use Rattle.cell.specs.Res.{done}
+use Rattle.cell.specs.Types.{digitsOf, binopType}
 use Rattle.cell.specs.declared.Type.{«Type» as Ty}
-use Rattle.cell.specs.declared.Type.the-variants as T
 use Rattle.cell.specs.declared.Value.{Value}
 use Rattle.catalogue.specs.Tables.{TabRef, tablesFrom}
 use Rattle.view.specs.Ast.{Exp, ok}
 use Rattle.view.specs.Record.{nodeAt}
 use Rattle.view.specs.Parse.{namesAt, parseValue}
+use Rattle.view.specs.declared.Fold.{Fold}
+use Rattle.view.specs.declared.Pick.{Pick}
 use Rattle.view.specs.declared.Node.{Node}
 use Rattle.view.specs.declared.Node.the-variants.{Const, Binop, Not, If, Exists, Single, Table as Tab, Select, Col, Classof, Let, Bad}
 use Rattle.view.proofs.Read as read
 use Rattle.view.proofs.Read.{was-read, next-is}
 use Rattle.view.proofs.Says.{exists-few, single-few}
 use Rattle.scope.specs.Scopes.{Open, local, find}
+use Rattle.scope.specs.Words.{typeIn}
 use Rattle.scope.specs.Table.{blank, scopesOf, infosOf}
 use Rattle.scope.specs.Blocks.{Tabs, all, tablesNamed, refsOf, opened}
-use Rattle.scope.specs.Entry.{localScope, blockScope, openedAs, openedBy}
+use Rattle.scope.specs.Entry.{localScope, openedAs, openedBy}
 use Rattle.scope.specs.declared.Scope.{Scope}
 use Rattle.scope.specs.declared.Opened.{Opened}
+use Rattle.scope.proofs.Locals.{local-type}
 use Rattle.scope.proofs.Pushes.{push-long, local-scopes, local-infos, block-scopes, block-infos}
 use Rattle.scope.proofs.Named.{BlockOpened, block-opened, names-length}
 use Rattle.resolve.specs.Expr.{Expr}
 use Rattle.resolve.specs.Expr as expr
+use Rattle.resolve.specs.Totals.{foldType}
 use Rattle.resolve.specs.Resolve.{good, brought, resolve}
 use Rattle.resolve.specs.Claims.{Ready, blockNode}
+use Rattle.resolve.specs.declared.Asked.{Asked}
+use Rattle.resolve.specs.declared.Asked.the-variants as ask
 use Rattle.resolve.specs.declared.Files.{Files}
-use Rattle.resolve.proofs.Inversion.{ColGood, ClassGood, const-good, bin-good, neg-good, if-good, exists-good, single-good, let-good, col-good, classof-good}
+use Rattle.resolve.proofs.Inversion.{ColGood, ClassGood, pick-same, const-good, bin-good, neg-good, if-good, exists-good, single-good, let-good, col-good, classof-good}
 use Rattle.resolve.proofs.Turns.{child}
 use Rattle.tree.specs.Claims.{outAt, exprAt, typeAt, infoAt, nextAt, Narrow, Accepted, refsAt, Tabled}
 use Rattle.tree.proofs.Resolved.{out-is, expr-is, type-is}
@@ -45,7 +52,7 @@ pub record Is (c ss v : List ℕ) (f : Files) (t : List Scope) (deep d at : ℕ)
   pub expr-as : exprAt c v f t deep d at ≡ x
   pub type-as : typeAt c v f t deep d at ≡ s
 
-pub accept : (c ss v : List ℕ) (f : Files) (t : List Scope) (deep d at : ℕ) → Ready c ss v f t deep d at → ((j : ℕ) → j < deep → Narrow (getD t j blank .ty))
+pub accept : (c ss v : List ℕ) (f : Files) (t : List Scope) (deep d at : ℕ) → Ready c ss v f t deep d at → ((j : ℕ) → j < deep → Narrow (typeIn (getD t j blank)))
     → {e : Exp} {k : ℕ} → parseValue v (f .n) d at ≡ ok e k → {x : Expr} {s : Ty}
     → resolve (tablesFrom c (f .nc) (f .nc) 0) (scopesOf c (f .nc) t deep) e ≡ good x s → Is c ss v f t deep d at x s
 accept c ss v f t deep d at r n h {x} {s} g =
@@ -60,6 +67,7 @@ pub record NotIs (c ss v : List ℕ) (f : Files) (t : List Scope) (deep d at : �
   pub operand : Accepted c ss v f t deep (d - 1) (at + 1)
   pub is : exprAt c v f t deep d at ≡ expr.Expr.neg (exprAt c v f t deep (d - 1) (at + 1))
   pub next : nextAt v f (d - 1) (at + 1) ≡ nextAt v f d at
+  pub type-as : typeAt c v f t deep (d - 1) (at + 1) ≡ typeAt c v f t deep d at
 
 pub record BinopIs (c ss v : List ℕ) (f : Files) (t : List Scope) (deep d at op m : ℕ) : Type 0 where
   pub left : Accepted c ss v f t deep (d - 1) (at + 1)
@@ -67,6 +75,7 @@ pub record BinopIs (c ss v : List ℕ) (f : Files) (t : List Scope) (deep d at o
   pub is : exprAt c v f t deep d at
       ≡ expr.Expr.bin op (digitsOf (typeAt c v f t deep d at)) (exprAt c v f t deep (d - 1) (at + 1)) (exprAt c v f t deep (d - 1) m)
   pub next : nextAt v f (d - 1) m ≡ nextAt v f d at
+  pub rule : binopType op (typeAt c v f t deep (d - 1) (at + 1)) (typeAt c v f t deep (d - 1) m) ≡ done (typeAt c v f t deep d at)
 
 pub record IfIs (c ss v : List ℕ) (f : Files) (t : List Scope) (deep d at m l : ℕ) : Type 0 where
   pub test : Accepted c ss v f t deep (d - 1) (at + 1)
@@ -85,6 +94,7 @@ pub record LetIs (c ss v : List ℕ) (f : Files) (t u : List Scope) (deep d at m
   pub is : exprAt c v f t deep d at ≡ expr.Expr.letin (exprAt c v f t deep (d - 1) (at + 1)) (exprAt c v f u (deep + 1) (d - 1) m)
   pub next : nextAt v f (d - 1) m ≡ nextAt v f d at
   pub infos : infosOf u (deep + 1) ≡ infoAt c v f t deep (d - 1) (at + 1) ∷ infosOf t deep
+  pub type-as : typeAt c v f u (deep + 1) (d - 1) m ≡ typeAt c v f t deep d at
 
 -- a block: s is its entry, u the table with its scope open
 pub record BlockIs (c ss v : List ℕ) (f : Files) (t u : List Scope) (deep d at count : ℕ) (s : Scope) : Type 0 where
@@ -95,22 +105,24 @@ pub record BlockIs (c ss v : List ℕ) (f : Files) (t u : List Scope) (deep d at
   pub test : Accepted c ss v f u (deep + 1) (d - 1) (at + 1 + count)
   pub infos : infosOf u (deep + 1) ≡ Fixed 0 ∷ infosOf t deep
 
-pub record ExistsIs (c ss v : List ℕ) (f : Files) (t u : List Scope) (deep d at count : ℕ) (s : Scope) : Type 0 where
+pub record ExistsIs (c ss v : List ℕ) (f : Files) (t u : List Scope) (deep d at count : ℕ) (h : Fold) (s : Scope) : Type 0 where
   pub block : BlockIs c ss v f t u deep d at count s
-  pub is : exprAt c v f t deep d at ≡ expr.Expr.exists (refsAt c (f .nc) v (at + 1) count) (exprAt c v f u (deep + 1) (d - 1) (at + 1 + count))
+  pub is : exprAt c v f t deep d at ≡ expr.Expr.exists h (refsAt c (f .nc) v (at + 1) count) (exprAt c v f u (deep + 1) (d - 1) (at + 1 + count))
   pub next : nextAt v f (d - 1) (at + 1 + count) ≡ nextAt v f d at
+  pub type-as : foldType h ≡ typeAt c v f t deep d at
 
-pub record SingleIs (c ss v : List ℕ) (f : Files) (t u : List Scope) (deep d at count m : ℕ) (s : Scope) : Type 0 where
+pub record SingleIs (c ss v : List ℕ) (f : Files) (t u : List Scope) (deep d at count m : ℕ) (h : Pick) (s : Scope) : Type 0 where
   pub block : BlockIs c ss v f t u deep d at count s
   pub value : Accepted c ss v f u (deep + 1) (d - 1) m
   pub is : exprAt c v f t deep d at
-      ≡ expr.Expr.single (refsAt c (f .nc) v (at + 1) count) (exprAt c v f u (deep + 1) (d - 1) (at + 1 + count)) (exprAt c v f u (deep + 1) (d - 1) m)
+      ≡ expr.Expr.single h (refsAt c (f .nc) v (at + 1) count) (exprAt c v f u (deep + 1) (d - 1) (at + 1 + count)) (exprAt c v f u (deep + 1) (d - 1) m)
   pub next : nextAt v f (d - 1) m ≡ nextAt v f d at
+  pub type-as : typeAt c v f u (deep + 1) (d - 1) m ≡ typeAt c v f t deep d at
 
 -- the entry of a block whose tables are there
-found-fine : (ss : List ℕ) (tabs : Tabs) (ts : List TabRef) (o : Opened) → o ≡ openedBy ss tabs → tabs ≡ all ts → (o .fine ≡ true) × (o .scope .ty ≡ T.Null)
-unfolding openedBy openedAs blockScope
-found-fine ss tabs ts o e h = (rw (e, h), rw (e, h))
+found-fine : (ss : List ℕ) (tabs : Tabs) (ts : List TabRef) (o : Opened) → o ≡ openedBy ss tabs → tabs ≡ all ts → o .fine ≡ true
+unfolding openedBy openedAs
+found-fine ss tabs ts o e h = rw (e, h)
 
 module _ (c ss v : List ℕ) (f : Files) (t : List Scope) (deep d at : ℕ) (w : Accepted c ss v f t deep d at) where
   -- the rules' answer on what was read
@@ -123,7 +135,7 @@ module _ (c ss v : List ℕ) (f : Files) (t : List Scope) (deep d at : ℕ) (w :
       → resolve (tablesFrom c (f .nc) (f .nc) 0) (scopesOf c (f .nc) t deep) e ≡ good x s → Is c ss v f t deep (d - 1) m x s
   same m h g = accept c ss v f t deep (d - 1) m (child c ss v f t t deep deep d at m (w .ready) (w .ready .sized) (omega arith) (was-read h)) (w .narrow) h g
 
-  inner : (m : ℕ) (u : List Scope) (s : Scope) → u ≡ set t deep s → Narrow (s .ty) → (Γ : List Open) → scopesOf c (f .nc) u (deep + 1) ≡ Γ
+  inner : (m : ℕ) (u : List Scope) (s : Scope) → u ≡ set t deep s → Narrow (typeIn s) → (Γ : List Open) → scopesOf c (f .nc) u (deep + 1) ≡ Γ
       → {e : Exp} {k : ℕ} {x : Expr} {r : Ty} → parseValue v (f .n) (d - 1) m ≡ ok e k
       → resolve (tablesFrom c (f .nc) (f .nc) 0) Γ e ≡ good x r → Is c ss v f u (deep + 1) (d - 1) m x r
   inner m u s p n Γ q {e} h g =
@@ -152,6 +164,11 @@ module _ (c ss v : List ℕ) (f : Files) (t : List Scope) (deep d at : ℕ) (w :
         let b = const-good (tablesFrom c (f .nc) (f .nc) 0) (scopesOf c (f .nc) t deep) _ _ at s x (whole h) in
         (b .is ∙ ap (λ (r : Ty). expr.Expr.const r x) (b .type-is), sym (next-is h))
 
+    pub const-type : {s : Ty} {x : Value} → nd ≡ Const s x → s ≡ typeAt c v f t deep d at
+    const-type {s} {x} g =
+        let h = read.const-read v (f .n) d at (w .ready .is-read) e g in
+        sym (const-good (tablesFrom c (f .nc) (f .nc) 0) (scopesOf c (f .nc) t deep) _ _ at s x (whole h) .type-is)
+
     pub col-is : {name q : ℕ} → nd ≡ Col name q
         → ColGood (find name q 0 (scopesOf c (f .nc) t deep)) (exprAt c v f t deep d at) (typeAt c v f t deep d at) × (at + 1 ≡ nextAt v f d at)
     unfolding nextAt
@@ -172,7 +189,7 @@ module _ (c ss v : List ℕ) (f : Files) (t : List Scope) (deep d at : ℕ) (w :
         let h = read.not-read v (f .n) d at (w .ready .is-read) e g in
         let b = neg-good (tablesFrom c (f .nc) (f .nc) 0) (scopesOf c (f .nc) t deep) _ _ at (h .x) (whole (h .whole)) in
         let l = same (at + 1) (h .first) (b .operand) in
-        record { operand = l .accepted; is = b .is ∙ ap expr.Expr.neg (sym (l .expr-as)); next = next-is (h .first) ∙ sym (next-is (h .whole)) }
+        record { operand = l .accepted; is = b .is ∙ ap expr.Expr.neg (sym (l .expr-as)); next = next-is (h .first) ∙ sym (next-is (h .whole)); type-as = l .type-as ∙ sym (b .type-is) }
 
     pub binop-is : (op m : ℕ) → nd ≡ Binop op → m ≡ nextAt v f (d - 1) (at + 1) → BinopIs c ss v f t deep d at op m
     unfolding nextAt
@@ -187,6 +204,7 @@ module _ (c ss v : List ℕ) (f : Files) (t : List Scope) (deep d at : ℕ) (w :
           right = r .accepted;
           is = b .is ∙ ap₂ (expr.Expr.bin op (digitsOf (typeAt c v f t deep d at))) (sym (l .expr-as)) (sym (r .expr-as));
           next = next-is p ∙ sym (next-is (h .whole));
+          rule = ap₂ (binopType op) (l .type-as) (r .type-as) ∙ b .rule;
         }
 
     pub if-is : (m l : ℕ) → nd ≡ If → m ≡ nextAt v f (d - 1) (at + 1) → l ≡ nextAt v f (d - 1) m → IfIs c ss v f t deep d at m l
@@ -216,7 +234,7 @@ module _ (c ss v : List ℕ) (f : Files) (t : List Scope) (deep d at : ℕ) (w :
         let b = let-good (tablesFrom c (f .nc) (f .nc) 0) (scopesOf c (f .nc) t deep) _ _ at name (h .x) (h .y) (whole (h .whole)) in
         let x = same (at + 1) (h .first) (b .value) in
         let l : deep < 16 = omega (arith, w .ready .left, w .ready .not-many) in
-        let r : s .ty ≡ typeAt c v f t deep (d - 1) (at + 1) = ap (λ (o : Scope). o .ty) p ∙ (unfold localScope in refl) in
+        let r : typeIn s ≡ typeAt c v f t deep (d - 1) (at + 1) = ap typeIn p ∙ local-type name _ _ in
         let y = inner m u s q (subst Narrow (sym r) (narrow-type c ss v f t deep (d - 1) (at + 1) (x .accepted))) _
         (local-scopes c (f .nc) t u deep s q l (w .ready .sized) name _ _ p ∙ ap (λ (o : Ty). local name o ∷ scopesOf c (f .nc) t deep) (x .type-as)) k (b .body) in
         record {
@@ -225,26 +243,27 @@ module _ (c ss v : List ℕ) (f : Files) (t : List Scope) (deep d at : ℕ) (w :
           is = b .is ∙ ap₂ expr.Expr.letin (sym (x .expr-as)) (sym (y .expr-as));
           next = next-is k ∙ sym (next-is (h .whole));
           infos = local-infos c (f .nc) t u deep s q l (w .ready .sized) name _ _ p;
+          type-as = y .type-as;
         }
 
   -- a block's node, o its entry as the pass opened it, u the table with its scope open
-  module _ (single : Bool) (count : ℕ) (g : nodeAt v at ≡ blockNode single count) (o : Opened)
+  module _ (asked : Asked) (count : ℕ) (g : nodeAt v at ≡ blockNode asked count) (o : Opened)
       (p : o ≡ openedBy ss (tablesNamed (tablesFrom c (f .nc) (f .nc) 0) (namesAt v (at + 1) count))) (u : List Scope) (q : u ≡ set t deep (o .scope)) where
-    exists-node : single ≡ false → nodeAt v at ≡ Exists count
+    exists-node : (h : Fold) → asked ≡ ask.Rows h → nodeAt v at ≡ Exists count h
     unfolding blockNode
-    exists-node e = g ∙ rw e
+    exists-node h e = g ∙ rw e
 
-    single-node : single ≡ true → nodeAt v at ≡ Single count
+    single-node : (h : Pick) → asked ≡ ask.Values h → nodeAt v at ≡ Single count h
     unfolding blockNode
-    single-node e = g ∙ rw e
+    single-node h e = g ∙ rw e
 
-    few : (b : Bool) → single ≡ b → (1 ≤ count) × (count ≤ 4)
-    few false e = exists-few v at refl (exists-node e)
-    few true e = single-few v at refl (single-node e)
+    few : (b : Asked) → asked ≡ b → (1 ≤ count) × (count ≤ 4)
+    few (ask.Rows h) e = exists-few v at refl (exists-node h e)
+    few (ask.Values h) e = single-few v at refl (single-node h e)
 
-    within : (b : Bool) → single ≡ b → at + 1 + count ≤ f .n
-    within false e = read.exists-listed v (f .n) d at (w .ready .is-read) refl (exists-node e) .within
-    within true e = read.single-listed v (f .n) d at (w .ready .is-read) refl (single-node e) .within
+    within : (b : Asked) → asked ≡ b → at + 1 + count ≤ f .n
+    within (ask.Rows h) e = read.exists-listed v (f .n) d at (w .ready .is-read) refl (exists-node h e) .within
+    within (ask.Values h) e = read.single-listed v (f .n) d at (w .ready .is-read) refl (single-node h e) .within
 
     refs-are : (ts : List TabRef) → tablesNamed (tablesFrom c (f .nc) (f .nc) 0) (namesAt v (at + 1) count) ≡ all ts → refsAt c (f .nc) v (at + 1) count ≡ ts
     unfolding refsAt refsOf
@@ -257,8 +276,8 @@ module _ (c ss v : List ℕ) (f : Files) (t : List Scope) (deep d at : ℕ) (w :
     part ts h m i j =
         let k = found-fine ss _ ts o p h in
         let l : deep < 16 = omega (arith, w .ready .left, w .ready .not-many) in
-        let b = block-opened c (f .nc) (f .tables) ss v (at + 1) count o (w .ready .lent .starts) (few single refl) p (k .0) in
-        inner m u (o .scope) q (subst Narrow (sym (k .1)) narrow-null) _
+        let b = block-opened c (f .nc) (f .tables) ss v (at + 1) count o (w .ready .lent .starts) (few asked refl) p k in
+        inner m u (o .scope) q (subst Narrow (sym (b .untyped)) narrow-null) _
         (block-scopes c (f .nc) t u deep (o .scope) q l (w .ready .sized) _ b ∙ ap (λ (z : Tabs). opened (refsOf z) ∷ scopesOf c (f .nc) t deep) h) i j
 
     made : (ts : List TabRef) → tablesNamed (tablesFrom c (f .nc) (f .nc) 0) (namesAt v (at + 1) count) ≡ all ts → Accepted c ss v f u (deep + 1) (d - 1) (at + 1 + count)
@@ -266,41 +285,42 @@ module _ (c ss v : List ℕ) (f : Files) (t : List Scope) (deep d at : ℕ) (w :
     made ts h a =
         let k = found-fine ss _ ts o p h in
         let l : deep < 16 = omega (arith, w .ready .left, w .ready .not-many) in
-        let b = block-opened c (f .nc) (f .tables) ss v (at + 1) count o (w .ready .lent .starts) (few single refl) p (k .0) in
-        let n = within single refl in
+        let b = block-opened c (f .nc) (f .tables) ss v (at + 1) count o (w .ready .lent .starts) (few asked refl) p k in
+        let n = within asked refl in
         record {
           tabled = record {
             cat-long = w .ready .lent .cat-long;
             starts = w .ready .lent .starts;
             view-long = omega (arith, w .ready .lent .view-long);
-            few = few single refl .1;
+            few = few asked refl .1;
             found = h ∙ ap all (sym (refs-are ts h));
           };
-          some = few single refl .0;
+          some = few asked refl .0;
           counted = ap length (refs-are ts h) ∙ names-length _ v (at + 1) count ts h;
           entry = b;
           test = a;
           infos = block-infos c (f .nc) t u deep (o .scope) q l (w .ready .sized) _ b;
         }
 
-    pub exists-is : single ≡ false → ExistsIs c ss v f t u deep d at count (o .scope)
+    pub exists-is : (z : Fold) → asked ≡ ask.Rows z → ExistsIs c ss v f t u deep d at count z (o .scope)
     unfolding nextAt
-    exists-is e =
-        let h = read.exists-read v (f .n) d at (w .ready .is-read) refl (exists-node e) in
-        let b = exists-good (tablesFrom c (f .nc) (f .nc) 0) (scopesOf c (f .nc) t deep) _ _ at _ (h .x) (whole (h .whole)) in
+    exists-is z e =
+        let h = read.exists-read v (f .n) d at (w .ready .is-read) refl (exists-node z e) in
+        let b = exists-good (tablesFrom c (f .nc) (f .nc) 0) (scopesOf c (f .nc) t deep) _ _ at z _ (h .x) (whole (h .whole)) in
         let x = part (b .tabs) (b .there) (at + 1 + count) (h .first) (b .test) in
         record {
           block = made (b .tabs) (b .there) (x .accepted);
-          is = b .is ∙ ap₂ expr.Expr.exists (sym (refs-are (b .tabs) (b .there))) (sym (x .expr-as));
+          is = b .is ∙ ap₂ (expr.Expr.exists z) (sym (refs-are (b .tabs) (b .there))) (sym (x .expr-as));
           next = next-is (h .first) ∙ sym (next-is (h .whole));
+          type-as = sym (b .type-is);
         }
 
-    pub single-is : (m : ℕ) → single ≡ true → m ≡ nextAt v f (d - 1) (at + 1 + count) → SingleIs c ss v f t u deep d at count m (o .scope)
+    pub single-is : (z : Pick) (m : ℕ) → asked ≡ ask.Values z → m ≡ nextAt v f (d - 1) (at + 1 + count) → SingleIs c ss v f t u deep d at count m z (o .scope)
     unfolding nextAt
-    single-is m e n =
-        let h = read.single-read v (f .n) d at (w .ready .is-read) refl (single-node e) in
+    single-is z m e n =
+        let h = read.single-read v (f .n) d at (w .ready .is-read) refl (single-node z e) in
         let k : parseValue v (f .n) (d - 1) m ≡ ok (h .y) (h .end) = ap (parseValue v (f .n) (d - 1)) (n ∙ next-is (h .first)) ∙ h .second in
-        let b = single-good (tablesFrom c (f .nc) (f .nc) 0) (scopesOf c (f .nc) t deep) _ _ at _ (h .x) (h .y) (whole (h .whole)) in
+        let b = single-good (tablesFrom c (f .nc) (f .nc) 0) (scopesOf c (f .nc) t deep) _ _ at z _ (h .x) (h .y) (whole (h .whole)) in
         let x = part (b .tabs) (b .there) (at + 1 + count) (h .first) (b .test) in
         let y = part (b .tabs) (b .there) m k (b .value) in
         record {
@@ -308,11 +328,12 @@ module _ (c ss v : List ℕ) (f : Files) (t : List Scope) (deep d at : ℕ) (w :
           value = y .accepted;
           is = b .is ∙ rw (refs-are (b .tabs) (b .there), x .expr-as, y .expr-as);
           next = next-is k ∙ sym (next-is (h .whole));
+          type-as = y .type-as ∙ pick-same z _ _ (b .rule);
         }
 
     pub block-is : BlockIs c ss v f t u deep d at count (o .scope)
-    block-is = go single refl
+    block-is = go asked refl
       where
-        go : (b : Bool) → single ≡ b → BlockIs c ss v f t u deep d at count (o .scope)
-        go false e = exists-is e .block
-        go true e = single-is _ e refl .block
+        go : (b : Asked) → asked ≡ b → BlockIs c ss v f t u deep d at count (o .scope)
+        go (ask.Rows h) e = exists-is h e .block
+        go (ask.Values h) e = single-is h _ e refl .block

@@ -96,9 +96,9 @@ info-of-class k is (expr.Expr.letin x y) =
     let-info (D x) (C k is x) (C k (infoOf (C k is x) ∷ is) y)
     ∙ info-of-class k (infoOf (C k is x) ∷ is) y
     ∙ ap (λ i. classInfo k (i ∷ is) y) (info-of-class k is x)
-info-of-class k is (expr.Expr.exists ts w) =
+info-of-class k is (expr.Expr.exists f ts w) =
     block-info ts (C k (Fixed 0 ∷ is) w ∷ []) ∙ ap (λ i. blockI ts (i ∷ [])) (info-of-class k (Fixed 0 ∷ is) w)
-info-of-class k is (expr.Expr.single ts w v) =
+info-of-class k is (expr.Expr.single g ts w v) =
     block-info ts (C k (Fixed 0 ∷ is) w ∷ choice (D w) (C k (Fixed 0 ∷ is) v) (fixed 0) ∷ [])
     ∙ ap₂ (λ i j. blockI ts (i ∷ j ∷ [])) (info-of-class k (Fixed 0 ∷ is) w)
     (choice-info (D w) (C k (Fixed 0 ∷ is) v) (fixed 0) ∙ ap (λ i. choiceI i (Fixed 0)) (info-of-class k (Fixed 0 ∷ is) v))

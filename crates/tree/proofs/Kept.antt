@@ -15,13 +15,15 @@ use Rattle.catalogue.specs.Tables.{Table, Column, TabRef, later, tableNamed}
 use Rattle.view.specs.Ast.{TabName, Exp, ok}
 use Rattle.view.specs.Record.{nodeAt}
 use Rattle.view.specs.Parse.{parseValue}
-use Rattle.view.specs.declared.Node.the-variants.{Const}
+use Rattle.view.specs.declared.Fold.{Fold}
+use Rattle.view.specs.declared.Node.the-variants.{Const, Exists}
 use Rattle.view.proofs.Induction.{parse-ind}
 use Rattle.scope.specs.Scopes.{Open, block, local, Hit, column, bound, Only, one, onlyOf, inCols, inTable, inTabs, inScope, nearest, find}
 use Rattle.scope.specs.Blocks.{Tabs, all, missing, before, foundAt, tablesNamed, opened}
 use Rattle.resolve.specs.Expr.{Expr}
+use Rattle.resolve.specs.Totals.{foldType}
 use Rattle.resolve.specs.Resolve.{good, resolve}
-use Rattle.resolve.proofs.Inversion.{ColGood, of-column, of-local, const-good, bin-good, neg-good, if-good, exists-good, single-good, let-good, col-good, classof-good}
+use Rattle.resolve.proofs.Inversion.{ColGood, of-column, of-local, pick-same, const-good, bin-good, neg-good, if-good, exists-good, single-good, let-good, col-good, classof-good}
 
 module _ (P : Ty → Type 0) where
   -- of columns, tables, open scopes, matches
@@ -124,7 +126,8 @@ module _ (P : Ty → Type 0) where
       (binop : (op : ℕ) (s t r : Ty) → binopType op s t ≡ done r → P s → P t → P r)
       (limb : (s t r : Ty) → limbType s t ≡ done r → P s → P t → P r)
       (cat : List Table) (tabs : Tables cat) (v : List ℕ) (n : ℕ)
-      (const : (at : ℕ) (t : Ty) (x : Value) → nodeAt v at ≡ Const t x → P t) where
+      (const : (at : ℕ) (t : Ty) (x : Value) → nodeAt v at ≡ Const t x → P t)
+      (fold : (at a : ℕ) (q : Fold) → nodeAt v at ≡ Exists a q → P (foldType q)) where
     pub kept : (d at : ℕ) {e : Exp} {k : ℕ} → parseValue v n d at ≡ ok e k → (Γ : List Open) → Scopes Γ → (X : Expr) (U : Ty) → resolve cat Γ e ≡ good X U → P U
     kept d at h =
         parse-ind v n (λ d at e k. (Γ : List Open) → Scopes Γ → (X : Expr) (U : Ty) → resolve cat Γ e ≡ good X U → P U)
@@ -141,8 +144,8 @@ module _ (P : Ty → Type 0) where
         (λ d at y w u m j k z l g ih jh kh Γ s X U e.
         let b = if-good cat Γ X U at y w u e in
         limb (b .s) (b .u) U (b .rule) (jh Γ s (b .y) (b .s) (b .left)) (kh Γ s (b .z) (b .u) (b .right)))
-        (λ d at a y k z l g o ih Γ s X U e. subst P (sym (exists-good cat Γ X U at _ y e .type-is)) boolean)
-        (λ d at a y w m k z l g o ih jh Γ s X U e.
-        let b = single-good cat Γ X U at _ y w e in
-        jh (opened (b .tabs) ∷ Γ) (of-tables cat _ (b .tabs) tabs (b .there), s) (b .z) U (b .value))
+        (λ d at a q y k z l g o ih Γ s X U e. subst P (sym (exists-good cat Γ X U at q _ y e .type-is)) (fold at a q g))
+        (λ d at a q y w m k z l g o ih jh Γ s X U e.
+        let b = single-good cat Γ X U at q _ y w e in
+        subst P (pick-same q (b .s) U (b .rule)) (jh (opened (b .tabs) ∷ Γ) (of-tables cat _ (b .tabs) tabs (b .there), s) (b .z) (b .s) (b .value)))
         d at h

@@ -1,7 +1,7 @@
 -- The leaves of the writer: one law for each place of their code. Its premises are what the code has found there.
 -- Assumes nothing.
 use Prim.Native.Nat.{ℕ, zero, suc, _+_, _*_, _<_, _≤_}
-use mathlib.Core.Path.{_≡_, refl, ap, ap₂, _∙_, subst}
+use mathlib.Core.Path.{_≡_, refl, sym, ap, ap₂, _∙_, subst}
 use mathlib.Core.Bool.{Bool, true, false}
 use mathlib.Core.List.{List, [], _∷_, _++_}
 use native.Mathlib.Omega.{arith}
@@ -14,28 +14,37 @@ use Rattle.word.specs.declared.Rec.{Rec}
 use Rattle.word.proofs.Laws.{length-rec, room-rec}
 use Rattle.word.proofs.Writing.{front, after, Todo, todo-all, todo-same, todo-less, todo-none}
 use Rattle.class.specs.declared.Info.{Info}
-use Rattle.cell.specs.Res.{done, nth}
-use Rattle.cell.specs.Types.{digitsOf, scaleOf, sameType}
+use Rattle.cell.specs.Res.{Res, stuck, done, orElse, nth}
+use Rattle.cell.specs.Types.{digitsOf, scaleOf, sameType, judgedOf}
+use Rattle.cell.specs.declared.Judged.{Judged}
+use Rattle.cell.specs.declared.Judged.the-variants as judge
 use Rattle.cell.specs.declared.Type.{«Type» as Ty}
 use Rattle.cell.specs.declared.Type.the-variants as T
 use Rattle.catalogue.specs.Tables.{TabRef, tablesFrom, tableNamed}
 use Rattle.catalogue.specs.Starts.{refBy}
 use Rattle.view.specs.Parse.{nameOf}
 use Rattle.view.specs.Record.{nodeOf, nodeAt, constRec}
+use Rattle.view.specs.declared.Fold.{Fold}
+use Rattle.view.specs.declared.Fold.the-variants as fold
+use Rattle.view.specs.declared.Pick.{Pick}
+use Rattle.view.specs.declared.Pick.the-variants as pick
 use Rattle.view.proofs.Constants.{Small, const-again}
+use Rattle.view.proofs.Says.{exists-digits}
 use Rattle.scope.proofs.Named.{names-length, number-again}
 use Rattle.scope.specs.Entry.{localScope}
 use Rattle.scope.specs.declared.Scope.{Scope}
 use Rattle.scope.specs.declared.Found.{Found}
 use Rattle.scope.specs.declared.Found.the-variants as F
-use Rattle.resolve.specs.Claims.{answerAt}
+use Rattle.resolve.specs.Claims.{answerAt, blockNode}
+use Rattle.resolve.specs.declared.Asked.{Asked}
+use Rattle.resolve.specs.declared.Asked.the-variants as ask
 use Rattle.resolve.specs.declared.Files.{Files}
 use Rattle.resolve.specs.declared.Known.{Known}
 use Rattle.resolve.specs.declared.Typed.{Typed}
 use Rattle.resolve.specs.declared.Typed.the-variants as typed
-use Rattle.tree.specs.Tree.{Tree, CONST, BINOP, NOT, IF, EXISTS, VALUE, DATA, CELLCLASS, ROWCLASS, LOCAL, LOCALCLASS, CONV, BIND, BINDC, LUB, DOM, AGG, size, encode, tableRecs}
+use Rattle.tree.specs.Tree.{Tree, CONST, BINOP, NOT, IF, EXISTS, VALUE, DATA, CELLCLASS, ROWCLASS, LOCAL, LOCALCLASS, CONV, BIND, BINDC, LUB, DOM, AGG, size, encode, tableRecs, foldKind, foldOp, pickKind}
 use Rattle.tree.specs.Trans.{nums}
-use Rattle.tree.specs.Claims.{typeAt, infoAt, Accepted, refsAt, Tabled, IsConst, constTree, colTree, classTree, convBytes, blockKind}
+use Rattle.tree.specs.Claims.{typeAt, infoAt, Accepted, refsAt, Tabled, IsConst, constTree, colTree, classTree, foundType, convBytes, blockKind, blockOp}
 use Rattle.tree.proofs.Sizes.{length-encode}
 use Rattle.tree.proofs.Writing.{room-as}
 use Rattle.tree.proofs.Answers.{not-refused, known-is}
@@ -58,10 +67,45 @@ module _ (c ss v : List ℕ) (f : Files) (t : List Scope) (deep d at : ℕ) (w :
   pub local-refused : (name : ℕ) {i p : ℕ} {s : Scope} → l ≡ typed.Refused i p → s ≡ localScope name (typeAt c v f t deep d at) (infoAt c v f t deep d at)
   local-refused name b = absurd (not-refused c ss v f t deep d at w l a b)
 
-pub digits-done : {r s : ℕ} {u x : Ty} → u ≡ x → s ≡ digitsOf u → r ≡ s → r ≡ digitsOf x
-digits-done e f g = g ∙ f ∙ ap digitsOf e
+pub ruleset lookups = (type-done, type-refused, local-done, local-refused, needs)
 
-pub ruleset lookups = (type-done, type-refused, local-done, local-refused, digits-done, needs)
+-- ---- types, by what is found
+
+module _ (j : Judged) (x : Res Ty) (e : j ≡ judgedOf x) where
+  pub rule-kept : {s : Ty} → j ≡ judge.Is s → s ≡ orElse T.Null x
+  unfolding judgedOf orElse
+  rule-kept {s} f = go x (sym f ∙ e)
+    where
+      go : (y : Res Ty) → judge.Is s ≡ judgedOf y → s ≡ orElse T.Null y
+      go stuck g = absurd (let z : _≡_ {A = ℕ} 0 1 = cc in omega arith)
+      go (done u) g = cc
+
+  pub rule-broken : j ≡ judge.Broken → T.Null ≡ orElse T.Null x
+  unfolding judgedOf orElse
+  rule-broken f = go x (sym f ∙ e)
+    where
+      go : (y : Res Ty) → judge.Broken ≡ judgedOf y → T.Null ≡ orElse T.Null y
+      go stuck g = refl
+      go (done u) g = absurd (let z : _≡_ {A = ℕ} 0 1 = cc in omega arith)
+
+module _ (h : Found) where
+  pub found-column : {a b c : ℕ} {t : Ty} {i j : Info} → h ≡ F.Column a b c t i j → t ≡ foundType h
+  unfolding foundType
+  found-column e = rw e
+
+  pub found-local : {a : ℕ} {t : Ty} {i : Info} → h ≡ F.Local a t i → t ≡ foundType h
+  unfolding foundType
+  found-local e = rw e
+
+  pub found-none : h ≡ F.None → T.Null ≡ foundType h
+  unfolding foundType
+  found-none e = rw e
+
+  pub found-more : h ≡ F.Ambiguous → T.Null ≡ foundType h
+  unfolding foundType
+  found-more e = rw e
+
+pub ruleset types = (rule-kept, rule-broken, found-column, found-local, found-none, found-more, needs)
 
 -- ---- room for a tree is room for a record
 
@@ -71,8 +115,8 @@ size-some (CONST t v) = omega arith
 size-some (BINOP op p x y) = omega arith
 size-some (NOT x) = omega arith
 size-some (IF c x y) = omega arith
-size-some (EXISTS ns w) = omega arith
-size-some (VALUE ns w v) = omega arith
+size-some (EXISTS f ns w) = omega arith
+size-some (VALUE g ns w v) = omega arith
 size-some (DATA a b c) = omega arith
 size-some (CELLCLASS a b c) = omega arith
 size-some (ROWCLASS a b) = omega arith
@@ -144,15 +188,71 @@ module _ {o : List ℕ} {at : ℕ} (s t : Ty) {b : Bool} (e : b ≡ sameType s t
 
 pub ruleset converted = (conv-same, conv-room, conv-other, needs)
 
--- ---- a block's kind
+-- ---- a block's kind and op
 
-pub kind-single : {b : Bool} → b ≡ true → 11 ≡ blockKind b
-unfolding blockKind
-kind-single e = rw e
+module _ {f : Fold} where
+  pub kind-any : f ≡ fold.Any → 10 ≡ foldKind f
+  unfolding foldKind
+  kind-any e = rw e
 
-pub kind-exists : {b : Bool} → b ≡ false → 10 ≡ blockKind b
-unfolding blockKind
-kind-exists e = rw e
+  pub kind-count : {p : ℕ} → f ≡ fold.Count p → 28 ≡ foldKind f
+  unfolding foldKind
+  kind-count e = rw e
+
+  pub op-any : f ≡ fold.Any → 0 ≡ foldOp f
+  unfolding foldOp
+  op-any e = rw e
+
+  pub op-count : {p : ℕ} → f ≡ fold.Count p → 16 * p ≡ foldOp f
+  unfolding foldOp
+  op-count e = rw e
+
+  pub count-small : {p : ℕ} → f ≡ fold.Count p → foldOp f < 256 → 16 * p < 256
+  unfolding foldOp
+  count-small e h = rw e at h
+
+module _ {g : Pick} where
+  pub kind-only : g ≡ pick.Only → 11 ≡ pickKind g
+  unfolding pickKind
+  kind-only e = rw e
+
+  pub kind-greatest : g ≡ pick.Greatest → 29 ≡ pickKind g
+  unfolding pickKind
+  kind-greatest e = rw e
+
+  pub kind-least : g ≡ pick.Least → 30 ≡ pickKind g
+  unfolding pickKind
+  kind-least e = rw e
+
+module _ {a : Asked} where
+  pub kind-rows : {f : Fold} {r : ℕ} → a ≡ ask.Rows f → r ≡ foldKind f → r ≡ blockKind a
+  unfolding blockKind
+  kind-rows e h = rw e h
+
+  pub kind-values : {g : Pick} {r : ℕ} → a ≡ ask.Values g → r ≡ pickKind g → r ≡ blockKind a
+  unfolding blockKind
+  kind-values e h = rw e h
+
+  pub op-rows : {f : Fold} {r : ℕ} → a ≡ ask.Rows f → r ≡ foldOp f → r ≡ blockOp a
+  unfolding blockOp
+  op-rows e h = rw e h
+
+  pub op-values : {g : Pick} → a ≡ ask.Values g → 0 ≡ blockOp a
+  unfolding blockOp
+  op-values e = rw e
+
+  pub rows-small : {f : Fold} → a ≡ ask.Rows f → blockOp a < 256 → foldOp f < 256
+  unfolding blockOp
+  rows-small e h = rw e at h
+
+pub ruleset kinds = (kind-any, kind-count, op-any, op-count, count-small, kind-only, kind-greatest, kind-least, kind-rows, kind-values, op-rows, op-values, rows-small, needs)
+
+-- in a view it is a byte
+pub op-small : (v : List ℕ) (at count : ℕ) (a : Asked) → nodeAt v at ≡ blockNode a count → blockOp a < 256
+unfolding blockNode blockOp foldOp
+op-small v at count (ask.Rows fold.Any) e = omega arith
+op-small v at count (ask.Rows (fold.Count p)) e = let h = exists-digits v at refl e in omega arith
+op-small v at count (ask.Values g) e = omega arith
 
 -- ---- a constant
 

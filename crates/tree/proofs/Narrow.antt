@@ -17,10 +17,17 @@ use Rattle.cell.specs.declared.Type.the-variants as T
 use Rattle.cell.proofs.Judging.{rule-sum, rule-product, rule-logic, rule-below, rule-equal, rule-above, rule-none, rule-past}
 use Rattle.cell.proofs.Typing.{digits-facts, Group, below-all, sums, products, logics, orders-below, equals, orders-above, above-all, group, SumTy, sum-fixed, sum-time, sum-interval, sum-ty, ProductTy, product-fixed, product-interval, product-ty, logic-ty, order-ty, equal-ty, never, LimbTy, limb-fixed, limb-same, limb-ty}
 use Rattle.catalogue.specs.Tables.{Table, Column, columnAt, colsFrom, tableAt, tablesFrom}
+use Rattle.view.specs.Record.{nodeAt}
+use Rattle.view.specs.declared.Fold.{Fold}
+use Rattle.view.specs.declared.Fold.the-variants as fold
+use Rattle.view.specs.declared.Node.the-variants.{Exists}
 use Rattle.view.proofs.Constants.{ruled-at}
+use Rattle.view.proofs.Says.{exists-digits}
 use Rattle.scope.specs.Scopes.{block, local}
+use Rattle.scope.specs.Words.{nameIn, typeIn}
 use Rattle.scope.specs.Table.{tabsAt, openOf, blank, scopesOf}
 use Rattle.scope.specs.declared.Scope.{Scope}
+use Rattle.resolve.specs.Totals.{foldType}
 use Rattle.resolve.specs.declared.Files.{Files}
 use Rattle.tree.specs.Claims.{exprAt, typeAt, Narrow, Accepted}
 use Rattle.tree.proofs.Kept as kept
@@ -114,6 +121,12 @@ limb-narrow s t r e f g = go (limb-ty s t r e) f g
     go (limb-fixed {p = p} {s = a} {q = q} {r = b}) h k = narrow-wider p a q b h k
     go limb-same h k = h
 
+-- EXISTS, and COUNT by its record
+fold-narrow : (v : List ℕ) (i a : ℕ) (q : Fold) → nodeAt v i ≡ Exists a q → Narrow (foldType q)
+unfolding foldType
+fold-narrow v i a fold.Any e = narrow-boolean
+fold-narrow v i a (fold.Count p) e = let h = exists-digits v i refl e in narrow-fixed p 0 (omega arith) (omega arith)
+
 -- ---- tables and open scopes
 
 cols-narrow : (c : List ℕ) (k i : ℕ) → kept.Columns Narrow (colsFrom c k i)
@@ -143,30 +156,30 @@ unfolding tabsAt
 tabs-narrow c n ws i zero = tt
 tabs-narrow c n ws i (suc k) = (table-narrow c n (getD ws i 0), tabs-narrow c n ws (i + 1) k)
 
-open-narrow : (c : List ℕ) (n : ℕ) (s : Scope) → Narrow (s .ty) → kept.Scope Narrow (openOf c n s)
+open-narrow : (c : List ℕ) (n : ℕ) (s : Scope) → Narrow (typeIn s) → kept.Scope Narrow (openOf c n s)
 unfolding openOf
-open-narrow c n s h = go (eqb (s .count) 0) _ (tabs-narrow c n (s .tables) 0 _)
+open-narrow c n s h = go (eqb (s .count) 0) _ (tabs-narrow c n (s .words) 0 _)
   where
-    go : (b : Bool) (ts : List Table) → kept.Tables Narrow ts → kept.Scope Narrow (cond b (local (s .name) (s .ty)) (block ts))
+    go : (b : Bool) (ts : List Table) → kept.Tables Narrow ts → kept.Scope Narrow (cond b (local (nameIn s) (typeIn s)) (block ts))
     go true ts k = h
     go false ts k = k
 
-scopes-narrow : (c : List ℕ) (n : ℕ) (t : List Scope) (deep : ℕ) → ((j : ℕ) → j < deep → Narrow (getD t j blank .ty)) → kept.Scopes Narrow (scopesOf c n t deep)
+scopes-narrow : (c : List ℕ) (n : ℕ) (t : List Scope) (deep : ℕ) → ((j : ℕ) → j < deep → Narrow (typeIn (getD t j blank))) → kept.Scopes Narrow (scopesOf c n t deep)
 unfolding scopesOf
 scopes-narrow c n t zero h = tt
 scopes-narrow c n t (suc deep) h = (open-narrow c n (getD t deep blank) (h deep (omega arith)), scopes-narrow c n t deep (λ j l. h j (omega arith)))
 
 -- one more scope open
-pub narrow-push : (t u : List Scope) (deep : ℕ) (s : Scope) → u ≡ set t deep s → deep < length t → Narrow (s .ty)
-    → ((j : ℕ) → j < deep → Narrow (getD t j blank .ty)) → (j : ℕ) → j < deep + 1 → Narrow (getD u j blank .ty)
+pub narrow-push : (t u : List Scope) (deep : ℕ) (s : Scope) → u ≡ set t deep s → deep < length t → Narrow (typeIn s)
+    → ((j : ℕ) → j < deep → Narrow (typeIn (getD t j blank))) → (j : ℕ) → j < deep + 1 → Narrow (typeIn (getD u j blank))
 narrow-push t u deep s e l h k j b = go (decLt j deep)
   where
-    go : Dec (j < deep) → Narrow (getD u j blank .ty)
+    go : Dec (j < deep) → Narrow (typeIn (getD u j blank))
     go (yes a) = let z : (j ≡ deep → ⊥) = omega arith in rw (e, getD-set-other t deep j s blank z) (k j a)
     go (no a) = let z : j ≡ deep = omega arith in rw (e, z, getD-set-same t deep s blank l) h
 
 -- no scope open
-pub narrow-none : (t : List Scope) (j : ℕ) → j < 0 → Narrow (getD t j blank .ty)
+pub narrow-none : (t : List Scope) (j : ℕ) → j < 0 → Narrow (typeIn (getD t j blank))
 narrow-none t j b = absurd (omega arith)
 
 -- THE LAW
@@ -174,6 +187,6 @@ pub narrow-type : (c ss v : List ℕ) (f : Files) (t : List Scope) (deep d at : 
 narrow-type c ss v f t deep d at w =
     let r = w .ready .is-read .is in
     kept.kept Narrow narrow-boolean narrow-class binop-narrow limb-narrow (tablesFrom c (f .nc) (f .nc) 0) (tables-narrow c (f .nc) (f .nc) 0) v (f .n)
-    (λ i s x e. rule-narrow s (ruled-at v i (sym e) refl)) d at r
+    (λ i s x e. rule-narrow s (ruled-at v i (sym e) refl)) (fold-narrow v) d at r
     (scopesOf c (f .nc) t deep) (scopes-narrow c (f .nc) t deep (w .narrow)) (exprAt c v f t deep d at) (typeAt c v f t deep d at)
     (sym (out-is c v f t deep d at r) ∙ w .resolved)

@@ -12,8 +12,12 @@ use Rattle.cell.specs.declared.Type.{«Type» as Ty}
 use Rattle.cell.specs.declared.Type.the-variants as T
 use Rattle.cell.specs.declared.Value.{Value}
 use Rattle.view.specs.Record.{rec, constOf, constRec}
+use Rattle.view.specs.declared.Fold.{Fold}
+use Rattle.view.specs.declared.Fold.the-variants as fold
+use Rattle.view.specs.declared.Pick.{Pick}
+use Rattle.view.specs.declared.Pick.the-variants as pick
 use Rattle.view.specs.declared.Node.the-variants.{Const}
-use Rattle.tree.specs.Tree.{Tree, CONST, BINOP, NOT, IF, EXISTS, VALUE, DATA, CELLCLASS, ROWCLASS, LOCAL, LOCALCLASS, CONV, BIND, BINDC, LUB, DOM, AGG, tableRecs, encode}
+use Rattle.tree.specs.Tree.{Tree, CONST, BINOP, NOT, IF, EXISTS, VALUE, DATA, CELLCLASS, ROWCLASS, LOCAL, LOCALCLASS, CONV, BIND, BINDC, LUB, DOM, AGG, tableRecs, foldKind, foldOp, pickKind, encode}
 use Rattle.tree.specs.Prefix.{Read, front, tableIn, readTables, Form, leaf, one, two, three, block, valued, constForm, formOf, readForm, decode, height, Fits}
 
 -- a record at the front is read back
@@ -40,6 +44,18 @@ const-form (T.Fixed p s) v e = rw e
 const-form (T.Time f) v e = rw e
 const-form (T.Interval f) v e = rw e
 const-form T.Class v e = rw e
+
+-- a block's record says what is asked of it
+fold-form : (q : Fold) (n : ℕ) → formOf (rec (foldKind q) (foldOp q) n 0 0) ≡ block n (EXISTS q)
+unfolding formOf foldKind foldOp
+fold-form fold.Any n = refl
+fold-form (fold.Count p) n = let i : (16 * p) / 16 ≡ p = omega arith in ap (λ (z : ℕ). block n (EXISTS (fold.Count z))) i
+
+pick-form : (q : Pick) (n : ℕ) → formOf (rec (pickKind q) 0 n 0 0) ≡ valued n (VALUE q)
+unfolding formOf pickKind
+pick-form pick.Only n = refl
+pick-form pick.Greatest n = refl
+pick-form pick.Least n = refl
 
 -- a record, then what it asks for
 leaf-back : (d k o x y z : ℕ) (rest : List ℕ) → decode (suc d) (recBytes k o x y z ++ rest) ≡ readForm (decode d) (formOf (rec k o x y z)) rest
@@ -93,11 +109,14 @@ decode-back (suc d) (NOT x) f h rest = head-back d 8 0 0 0 0 (encode x) rest ∙
 decode-back (suc d) (IF c x y) (e, f, g) h rest =
     head-back d 9 0 0 0 0 (encode c ++ (encode x ++ encode y)) rest
     ∙ three-back (decode d) IF c x y (decode-back d c e (omega arith)) (decode-back d x f (omega arith)) (decode-back d y g (omega arith)) rest
-decode-back (suc d) (EXISTS ns w) f h rest =
-    head-back d 10 0 (length ns) 0 0 (tableRecs ns ++ encode w) rest ∙ block-back (decode d) EXISTS ns w (decode-back d w f (omega arith)) rest
-decode-back (suc d) (VALUE ns w v) (f, g) h rest =
-    head-back d 11 0 (length ns) 0 0 (tableRecs ns ++ (encode w ++ encode v)) rest
-    ∙ valued-back (decode d) VALUE ns w v (decode-back d w f (omega arith)) (decode-back d v g (omega arith)) rest
+decode-back (suc d) (EXISTS q ns w) f h rest =
+    head-back d (foldKind q) (foldOp q) (length ns) 0 0 (tableRecs ns ++ encode w) rest
+    ∙ ap (λ (z : Form). readForm (decode d) z ((tableRecs ns ++ encode w) ++ rest)) (fold-form q (length ns))
+    ∙ block-back (decode d) (EXISTS q) ns w (decode-back d w f (omega arith)) rest
+decode-back (suc d) (VALUE q ns w v) (f, g) h rest =
+    head-back d (pickKind q) 0 (length ns) 0 0 (tableRecs ns ++ (encode w ++ encode v)) rest
+    ∙ ap (λ (z : Form). readForm (decode d) z ((tableRecs ns ++ (encode w ++ encode v)) ++ rest)) (pick-form q (length ns))
+    ∙ valued-back (decode d) (VALUE q) ns w v (decode-back d w f (omega arith)) (decode-back d v g (omega arith)) rest
 decode-back (suc d) (DATA a b c) f h rest = leaf-back d 17 0 a b c rest
 decode-back (suc d) (CELLCLASS a b c) f h rest = leaf-back d 18 0 a b c rest
 decode-back (suc d) (ROWCLASS a b) f h rest = leaf-back d 19 0 a b 0 rest

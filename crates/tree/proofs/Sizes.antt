@@ -34,8 +34,8 @@ length-encode (CONST t v) = length-rec _ _ _ _ _
 length-encode (BINOP op p x y) = simp (length-append, length-rec) (omega (arith, length-encode x, length-encode y))
 length-encode (NOT x) = simp (length-append, length-rec) (omega (arith, length-encode x))
 length-encode (IF c x y) = simp (length-append, length-rec) (omega (arith, length-encode c, length-encode x, length-encode y))
-length-encode (EXISTS ns w) = simp (length-append, length-rec) (omega (arith, length-tables ns, length-encode w))
-length-encode (VALUE ns w v) = simp (length-append, length-rec) (omega (arith, length-tables ns, length-encode w, length-encode v))
+length-encode (EXISTS f ns w) = simp (length-append, length-rec) (omega (arith, length-tables ns, length-encode w))
+length-encode (VALUE g ns w v) = simp (length-append, length-rec) (omega (arith, length-tables ns, length-encode w, length-encode v))
 length-encode (DATA a b c) = length-rec _ _ _ _ _
 length-encode (CELLCLASS a b c) = length-rec _ _ _ _ _
 length-encode (ROWCLASS a b) = length-rec _ _ _ _ _
@@ -78,8 +78,8 @@ size-data (expr.Expr.neg x) = omega (arith, size-data x)
 size-data (expr.Expr.conv p s x) = omega (arith, size-data x)
 size-data (expr.Expr.if c x y) = omega (arith, size-data c, size-data x, size-data y)
 size-data (expr.Expr.letin x y) = omega (arith, size-data x, size-data y)
-size-data (expr.Expr.exists ts w) = omega (arith, length-nums ts, size-data w)
-size-data (expr.Expr.single ts w v) = omega (arith, length-nums ts, size-data w, size-data v)
+size-data (expr.Expr.exists f ts w) = omega (arith, length-nums ts, size-data w)
+size-data (expr.Expr.single g ts w v) = omega (arith, length-nums ts, size-data w, size-data v)
 
 -- ---- the class tree: what is known of it, and its size
 
@@ -197,9 +197,9 @@ weight-of-class k is (expr.Expr.letin x y) =
     ∙ ap (λ (n : ℕ). letW n (weightOf (C k is x)) (weightOf (C k (infoOf (C k is x) ∷ is) y))) (size-data x)
     ∙ ap₂ (letW (sizeD x)) (weight-of-class k is x)
     (weight-of-class k (infoOf (C k is x) ∷ is) y ∙ ap (λ (i : Info). weigh k (i ∷ is) y) (weight-info (C k is x) ∙ ap (λ (w : Weighed). w .info) (weight-of-class k is x)))
-weight-of-class k is (expr.Expr.exists ts w) =
+weight-of-class k is (expr.Expr.exists f ts w) =
     block-weight ts (C k (Fixed 0 ∷ is) w ∷ []) ∙ ap (λ (u : Weighed). blockW ts (u ∷ [])) (weight-of-class k (Fixed 0 ∷ is) w)
-weight-of-class k is (expr.Expr.single ts w v) =
+weight-of-class k is (expr.Expr.single g ts w v) =
     block-weight ts (C k (Fixed 0 ∷ is) w ∷ choice (D w) (C k (Fixed 0 ∷ is) v) (fixed 0) ∷ [])
     ∙ ap₂ (λ (a b : Weighed). blockW ts (a ∷ b ∷ [])) (weight-of-class k (Fixed 0 ∷ is) w)
     (choice-weight (D w) (C k (Fixed 0 ∷ is) v) (fixed 0)

@@ -1,19 +1,23 @@
 -- The writer of the data tree: one law for each place of its code. Its premises are what the code has found there.
 -- An asks-law is what a call requires, a done-law what the function ensures. Assumes nothing.
-use Prim.Native.Nat.{ℕ, _+_, _-_}
-use mathlib.Core.Path.{_≡_, refl, sym, _∙_}
-use mathlib.Core.Bool.{Bool, true, false}
+use Prim.Native.Nat.{ℕ, _+_, _-_, _≤_}
+use mathlib.Core.Path.{_≡_, refl, sym, ap, ap₂, _∙_}
 use mathlib.Core.List.{List, _++_}
-use lib.ListN.{set}
+use native.Mathlib.Omega.{arith}
+use lib.ListN.{length, set}
 use Rattle.word.specs.Buffer.{Wrote, Room}
 use Rattle.word.specs.Record.{recBytes}
-use Rattle.word.proofs.Writing.{then, wrote-as, front, after}
-use Rattle.cell.specs.Types.{digitsOf}
+use Rattle.word.proofs.Writing.{then, wrote-as, kept, front, after}
+use Rattle.cell.specs.Res.{orElse}
+use Rattle.cell.specs.Types.{digitsOf, binopType}
 use Rattle.cell.specs.declared.Type.{«Type» as Ty}
+use Rattle.cell.specs.declared.Type.the-variants as T
 use Rattle.cell.specs.declared.Value.{Value}
 use Rattle.catalogue.specs.Tables.{tablesFrom}
 use Rattle.view.specs.Record.{nodeAt}
 use Rattle.view.specs.Parse.{namesAt}
+use Rattle.view.specs.declared.Fold.{Fold}
+use Rattle.view.specs.declared.Pick.{Pick}
 use Rattle.view.specs.declared.Node.{Node}
 use Rattle.view.specs.declared.Node.the-variants.{Const, Binop, Not, If, Col, Classof, Let}
 use Rattle.scope.specs.Scopes.{find}
@@ -23,15 +27,19 @@ use Rattle.scope.specs.Entry.{localScope, openedBy}
 use Rattle.scope.specs.declared.Scope.{Scope}
 use Rattle.scope.specs.declared.Opened.{Opened}
 use Rattle.scope.specs.declared.Found.{Found}
+use Rattle.resolve.specs.Totals.{foldType}
 use Rattle.resolve.specs.Claims.{blockNode}
+use Rattle.resolve.specs.declared.Asked.{Asked}
+use Rattle.resolve.specs.declared.Asked.the-variants as ask
 use Rattle.resolve.specs.declared.Files.{Files}
 use Rattle.tree.specs.Tree.{encode, tableRecs}
 use Rattle.tree.specs.Trans.{nums}
-use Rattle.tree.specs.Claims.{typeAt, infoAt, dataAt, limbAt, nextAt, Narrow, Accepted, refsAt, Tabled, IsConst, constTree, colTree, classTree, convBytes, blockKind}
+use Rattle.tree.specs.Claims.{typeAt, infoAt, dataAt, limbAt, nextAt, Narrow, Accepted, refsAt, Tabled, IsConst, constTree, colTree, classTree, foundType, convBytes, blockKind, blockOp}
 use Rattle.tree.specs.declared.Pos.{Pos}
 use Rattle.tree.proofs.Narrow.{narrow-type}
-use Rattle.tree.proofs.Accepted.{ExistsIs, SingleIs, const-is, col-is, classof-is, not-is, binop-is, if-is, let-is, block-is, exists-is, single-is}
-use Rattle.tree.proofs.Writing.{room-as, const-tree, col-tree, class-tree, tree-bytes, limb-bytes, not-bytes, binop-bytes, if-bytes, let-bytes, exists-bytes, single-bytes}
+use Rattle.tree.proofs.Accepted.{ExistsIs, SingleIs, const-is, const-type, col-is, classof-is, not-is, binop-is, if-is, let-is, block-is, exists-is, single-is}
+use Rattle.tree.proofs.Leaves.{room-some}
+use Rattle.tree.proofs.Writing.{room-as, room-behind, put-last, const-tree, col-tree, class-tree, found-type, tree-bytes, limb-bytes, not-bytes, binop-bytes, if-bytes, let-bytes, exists-bytes, single-bytes}
 
 -- a constant's node, as the pass found it
 pub const-node : (v : List ℕ) (at : ℕ) {nd : Node} {s : Ty} {x : Value} → nd ≡ nodeAt v at → nd ≡ Const s x → IsConst (nodeAt v at)
@@ -50,9 +58,9 @@ module _ (c ss v : List ℕ) (f : Files) (t : List Scope) (deep d at : ℕ) (w :
       pub limb-asks : Accepted c ss v f t deep d at × Room o₁ a (encode (dataAt c v f t deep d at))
       limb-asks = (w, after x (room-as limbed r))
 
-      pub limb-done : {p : Pos} {o₂ : List ℕ} → p .next ≡ nextAt v f d at → Wrote o₁ a (encode (dataAt c v f t deep d at)) o₂ (p .to)
-          → (p .next ≡ nextAt v f d at) × Wrote o to (encode (limbAt c v f t deep d at ty)) o₂ (p .to)
-      limb-done h y = (h, wrote-as (sym limbed) (then x y))
+      pub limb-done : {p : Pos} {o₂ : List ℕ} → p .next ≡ nextAt v f d at → Wrote o₁ a (encode (dataAt c v f t deep d at)) o₂ (p .to) → p .ty ≡ typeAt c v f t deep d at
+          → (p .next ≡ nextAt v f d at) × (Wrote o to (encode (limbAt c v f t deep d at ty)) o₂ (p .to) × (p .ty ≡ typeAt c v f t deep d at))
+      limb-done h y k = (h, (wrote-as (sym limbed) (then x y), k))
 
   module _ (nd : Node) (e : nd ≡ nodeAt v at) {o : List ℕ} {to : ℕ} (r : Room o to (encode (dataAt c v f t deep d at))) where
     -- CONSTANTS
@@ -63,8 +71,9 @@ module _ (c ss v : List ℕ) (f : Files) (t : List Scope) (deep d at : ℕ) (w :
       pub const-asks : IsConst (nodeAt v at) × Room o to (encode (constTree (nodeAt v at)))
       const-asks = (const-node v at e g, room-as (sym const-bytes) r)
 
-      pub const-done : {o₁ : List ℕ} {a : ℕ} → Wrote o to (encode (constTree (nodeAt v at))) o₁ a → (at + 1 ≡ nextAt v f d at) × Wrote o to (encode (dataAt c v f t deep d at)) o₁ a
-      const-done x = (const-is c ss v f t deep d at w nd e g .1, wrote-as const-bytes x)
+      pub const-done : {o₁ : List ℕ} {a : ℕ} → Wrote o to (encode (constTree (nodeAt v at))) o₁ a
+          → (at + 1 ≡ nextAt v f d at) × (Wrote o to (encode (dataAt c v f t deep d at)) o₁ a × (s ≡ typeAt c v f t deep d at))
+      const-done y = (const-is c ss v f t deep d at w nd e g .1, (wrote-as const-bytes y, const-type c ss v f t deep d at w nd e g))
 
     -- COL
     module _ {name q : ℕ} (g : nd ≡ Col name q) (h : Found) (i : h ≡ foundOf (infosOf t deep) (find name q 0 (scopesOf c (f .nc) t deep))) where
@@ -74,8 +83,11 @@ module _ (c ss v : List ℕ) (f : Files) (t : List Scope) (deep d at : ℕ) (w :
       pub col-asks : Room o to (encode (colTree h))
       col-asks = room-as (sym col-bytes) r
 
-      pub col-done : {o₁ : List ℕ} {a : ℕ} → Wrote o to (encode (colTree h)) o₁ a → (at + 1 ≡ nextAt v f d at) × Wrote o to (encode (dataAt c v f t deep d at)) o₁ a
-      col-done x = (col-is c ss v f t deep d at w nd e g .1, wrote-as col-bytes x)
+      pub col-done : {o₁ : List ℕ} {a : ℕ} {s : Ty} → Wrote o to (encode (colTree h)) o₁ a → s ≡ foundType h
+          → (at + 1 ≡ nextAt v f d at) × (Wrote o to (encode (dataAt c v f t deep d at)) o₁ a × (s ≡ typeAt c v f t deep d at))
+      col-done x k =
+          let b = col-is c ss v f t deep d at w nd e g in
+          (b .1, (wrote-as col-bytes x, k ∙ found-type (infosOf t deep) (b .0) i))
 
     -- CLASSOF
     module _ {name q : ℕ} (g : nd ≡ Classof name q) (h : Found) (i : h ≡ foundOf (infosOf t deep) (find name q 0 (scopesOf c (f .nc) t deep))) where
@@ -85,8 +97,11 @@ module _ (c ss v : List ℕ) (f : Files) (t : List Scope) (deep d at : ℕ) (w :
       pub class-asks : Room o to (encode (classTree h))
       class-asks = room-as (sym class-bytes) r
 
-      pub class-done : {o₁ : List ℕ} {a : ℕ} → Wrote o to (encode (classTree h)) o₁ a → (at + 1 ≡ nextAt v f d at) × Wrote o to (encode (dataAt c v f t deep d at)) o₁ a
-      class-done x = (classof-is c ss v f t deep d at w nd e g .1, wrote-as class-bytes x)
+      pub class-done : {o₁ : List ℕ} {a : ℕ} → Wrote o to (encode (classTree h)) o₁ a
+          → (at + 1 ≡ nextAt v f d at) × (Wrote o to (encode (dataAt c v f t deep d at)) o₁ a × (T.Class ≡ typeAt c v f t deep d at))
+      class-done x =
+          let b = classof-is c ss v f t deep d at w nd e g in
+          (b .1, (wrote-as class-bytes x, sym (b .0 .type-is)))
 
     -- NOT
     module _ (g : nd ≡ Not) {o₁ : List ℕ} {a : ℕ} (x : Wrote o to (recBytes 8 0 0 0 0) o₁ a) where
@@ -96,29 +111,36 @@ module _ (c ss v : List ℕ) (f : Files) (t : List Scope) (deep d at : ℕ) (w :
           (b .operand, after x (room-as (not-bytes c ss v f t deep d at b) r))
 
       pub not-done : {p : Pos} {o₂ : List ℕ} → p .next ≡ nextAt v f (d - 1) (at + 1) → Wrote o₁ a (encode (dataAt c v f t deep (d - 1) (at + 1))) o₂ (p .to)
-          → (p .next ≡ nextAt v f d at) × Wrote o to (encode (dataAt c v f t deep d at)) o₂ (p .to)
-      not-done h y =
+          → p .ty ≡ typeAt c v f t deep (d - 1) (at + 1)
+          → (p .next ≡ nextAt v f d at) × (Wrote o to (encode (dataAt c v f t deep d at)) o₂ (p .to) × (p .ty ≡ typeAt c v f t deep d at))
+      not-done h y k =
           let b = not-is c ss v f t deep d at w nd e g in
-          (h ∙ b .next, wrote-as (sym (not-bytes c ss v f t deep d at b)) (then x y))
+          (h ∙ b .next, (wrote-as (sym (not-bytes c ss v f t deep d at b)) (then x y), k ∙ b .type-as))
 
-    -- BINOP
-    module _ {op : ℕ} (g : nd ≡ Binop op) {p : ℕ} (i : p ≡ digitsOf (typeAt c v f t deep d at)) {o₁ : List ℕ} {a : ℕ} (x : Wrote o to (recBytes 7 op p 0 0) o₁ a) where
-      pub left-asks : Accepted c ss v f t deep (d - 1) (at + 1) × Room o₁ a (encode (dataAt c v f t deep (d - 1) (at + 1)))
+    -- BINOP: the operands after the place of its record, then the record
+    module _ {op : ℕ} (g : nd ≡ Binop op) where
+      pub left-asks : Accepted c ss v f t deep (d - 1) (at + 1) × Room o (to + 8) (encode (dataAt c v f t deep (d - 1) (at + 1)))
       left-asks =
           let b = binop-is c ss v f t deep d at w nd e op _ g refl in
-          (b .left, front _ (after x (room-as (binop-bytes c ss v f t deep d at op _ p b i) r)))
+          (b .left, front _ (room-behind _ _ _ _ _ (room-as (binop-bytes c ss v f t deep d at op _ _ b refl) r)))
 
-      module _ {l : Pos} {o₂ : List ℕ} (h : l .next ≡ nextAt v f (d - 1) (at + 1)) (y : Wrote o₁ a (encode (dataAt c v f t deep (d - 1) (at + 1))) o₂ (l .to)) where
-        pub right-asks : Accepted c ss v f t deep (d - 1) (l .next) × Room o₂ (l .to) (encode (dataAt c v f t deep (d - 1) (l .next)))
+      module _ (l : Pos) {o₁ : List ℕ} (h : l .next ≡ nextAt v f (d - 1) (at + 1)) (y : Wrote o (to + 8) (encode (dataAt c v f t deep (d - 1) (at + 1))) o₁ (l .to)) where
+        pub right-asks : Accepted c ss v f t deep (d - 1) (l .next) × Room o₁ (l .to) (encode (dataAt c v f t deep (d - 1) (l .next)))
         right-asks =
             let b = binop-is c ss v f t deep d at w nd e op (l .next) g h in
-            (b .right, after y (after x (room-as (binop-bytes c ss v f t deep d at op (l .next) p b i) r)))
+            (b .right, after y (room-behind _ _ _ _ _ (room-as (binop-bytes c ss v f t deep d at op (l .next) _ b refl) r)))
 
-        pub binop-done : {m : Pos} {o₃ : List ℕ} → m .next ≡ nextAt v f (d - 1) (l .next) → Wrote o₂ (l .to) (encode (dataAt c v f t deep (d - 1) (l .next))) o₃ (m .to)
-            → (m .next ≡ nextAt v f d at) × Wrote o to (encode (dataAt c v f t deep d at)) o₃ (m .to)
-        binop-done k z =
-            let b = binop-is c ss v f t deep d at w nd e op (l .next) g h in
-            (k ∙ b .next, wrote-as (sym (binop-bytes c ss v f t deep d at op (l .next) p b i)) (then x (then y z)))
+        module _ (m : Pos) {o₂ : List ℕ} (k : m .next ≡ nextAt v f (d - 1) (l .next)) (z : Wrote o₁ (l .to) (encode (dataAt c v f t deep (d - 1) (l .next))) o₂ (m .to)) where
+          pub binop-asks : to + 8 ≤ length o₂
+          binop-asks = omega (arith, room-some _ r, kept y, kept z)
+
+          pub binop-done : {ty : Ty} {p : ℕ} {o₃ : List ℕ} {a : ℕ} → l .ty ≡ typeAt c v f t deep (d - 1) (at + 1) → m .ty ≡ typeAt c v f t deep (d - 1) (l .next)
+              → ty ≡ orElse T.Null (binopType op (l .ty) (m .ty)) → p ≡ digitsOf ty → Wrote o₂ to (recBytes 7 op p 0 0) o₃ a
+              → (m .next ≡ nextAt v f d at) × (Wrote o to (encode (dataAt c v f t deep d at)) o₃ (m .to) × (ty ≡ typeAt c v f t deep d at))
+          binop-done {ty} {p} i j n q x =
+              let b = binop-is c ss v f t deep d at w nd e op (l .next) g h in
+              let u : ty ≡ typeAt c v f t deep d at = n ∙ ap (orElse T.Null) (ap₂ (binopType op) i j ∙ b .rule) ∙ (unfold orElse in refl) in
+              (k ∙ b .next, (wrote-as (sym (binop-bytes c ss v f t deep d at op (l .next) p b (q ∙ ap digitsOf u))) (put-last _ _ _ _ _ (then y z) x), u))
 
     -- IF; ty is its type
     module _ (g : nd ≡ If) {ty : Ty} (i : ty ≡ typeAt c v f t deep d at) {o₁ : List ℕ} {a : ℕ} (x : Wrote o to (recBytes 9 0 0 0 0) o₁ a) where
@@ -130,23 +152,23 @@ module _ (c ss v : List ℕ) (f : Files) (t : List Scope) (deep d at : ℕ) (w :
           let b = if-is c ss v f t deep d at w nd e _ _ g refl refl in
           (b .test, front _ (after x (room-as (if-bytes c ss v f t deep d at _ _ ty b i) r)))
 
-      module _ {l : Pos} {o₂ : List ℕ} (h : l .next ≡ nextAt v f (d - 1) (at + 1)) (y : Wrote o₁ a (encode (dataAt c v f t deep (d - 1) (at + 1))) o₂ (l .to)) where
+      module _ (l : Pos) {o₂ : List ℕ} (h : l .next ≡ nextAt v f (d - 1) (at + 1)) (y : Wrote o₁ a (encode (dataAt c v f t deep (d - 1) (at + 1))) o₂ (l .to)) where
         pub yes-asks : Accepted c ss v f t deep (d - 1) (l .next) × (Narrow ty × Room o₂ (l .to) (encode (limbAt c v f t deep (d - 1) (l .next) ty)))
         yes-asks =
             let b = if-is c ss v f t deep d at w nd e (l .next) _ g h refl in
             (b .yes, (narrow, front _ (after y (after x (room-as (if-bytes c ss v f t deep d at (l .next) _ ty b i) r)))))
 
-        module _ {m : Pos} {o₃ : List ℕ} (k : m .next ≡ nextAt v f (d - 1) (l .next)) (z : Wrote o₂ (l .to) (encode (limbAt c v f t deep (d - 1) (l .next) ty)) o₃ (m .to)) where
+        module _ (m : Pos) {o₃ : List ℕ} (k : m .next ≡ nextAt v f (d - 1) (l .next)) (z : Wrote o₂ (l .to) (encode (limbAt c v f t deep (d - 1) (l .next) ty)) o₃ (m .to)) where
           pub no-asks : Accepted c ss v f t deep (d - 1) (m .next) × (Narrow ty × Room o₃ (m .to) (encode (limbAt c v f t deep (d - 1) (m .next) ty)))
           no-asks =
               let b = if-is c ss v f t deep d at w nd e (l .next) (m .next) g h k in
               (b .no, (narrow, after z (after y (after x (room-as (if-bytes c ss v f t deep d at (l .next) (m .next) ty b i) r)))))
 
-          pub if-done : {n : Pos} {o₄ : List ℕ} → n .next ≡ nextAt v f (d - 1) (m .next) → Wrote o₃ (m .to) (encode (limbAt c v f t deep (d - 1) (m .next) ty)) o₄ (n .to)
-              → (n .next ≡ nextAt v f d at) × Wrote o to (encode (dataAt c v f t deep d at)) o₄ (n .to)
-          if-done j q =
+          pub if-done : (n : Pos) {o₄ : List ℕ} → n .next ≡ nextAt v f (d - 1) (m .next) → Wrote o₃ (m .to) (encode (limbAt c v f t deep (d - 1) (m .next) ty)) o₄ (n .to)
+              → (n .next ≡ nextAt v f d at) × (Wrote o to (encode (dataAt c v f t deep d at)) o₄ (n .to) × (ty ≡ typeAt c v f t deep d at))
+          if-done n j q =
               let b = if-is c ss v f t deep d at w nd e (l .next) (m .next) g h k in
-              (j ∙ b .next, wrote-as (sym (if-bytes c ss v f t deep d at (l .next) (m .next) ty b i)) (then x (then y (then z q))))
+              (j ∙ b .next, (wrote-as (sym (if-bytes c ss v f t deep d at (l .next) (m .next) ty b i)) (then x (then y (then z q))), i))
 
     -- LET
     module _ {name : ℕ} (g : nd ≡ Let name) where
@@ -160,56 +182,59 @@ module _ (c ss v : List ℕ) (f : Files) (t : List Scope) (deep d at : ℕ) (w :
             let b = let-is c ss v f t deep d at w nd e name _ s u g refl i j in
             (b .value, front _ (after x (room-as (let-bytes c ss v f t deep d at u _ b) r)))
 
-        module _ {l : Pos} {o₂ : List ℕ} (h : l .next ≡ nextAt v f (d - 1) (at + 1)) (y : Wrote o₁ a (encode (dataAt c v f t deep (d - 1) (at + 1))) o₂ (l .to)) where
+        module _ (l : Pos) {o₂ : List ℕ} (h : l .next ≡ nextAt v f (d - 1) (at + 1)) (y : Wrote o₁ a (encode (dataAt c v f t deep (d - 1) (at + 1))) o₂ (l .to)) where
           pub body-asks : Accepted c ss v f u (deep + 1) (d - 1) (l .next) × Room o₂ (l .to) (encode (dataAt c v f u (deep + 1) (d - 1) (l .next)))
           body-asks =
               let b = let-is c ss v f t deep d at w nd e name (l .next) s u g h i j in
               (b .body, after y (after x (room-as (let-bytes c ss v f t deep d at u (l .next) b) r)))
 
           pub let-done : {m : Pos} {o₃ : List ℕ} → m .next ≡ nextAt v f (d - 1) (l .next) → Wrote o₂ (l .to) (encode (dataAt c v f u (deep + 1) (d - 1) (l .next))) o₃ (m .to)
-              → (m .next ≡ nextAt v f d at) × Wrote o to (encode (dataAt c v f t deep d at)) o₃ (m .to)
-          let-done k z =
+              → m .ty ≡ typeAt c v f u (deep + 1) (d - 1) (l .next)
+              → (m .next ≡ nextAt v f d at) × (Wrote o to (encode (dataAt c v f t deep d at)) o₃ (m .to) × (m .ty ≡ typeAt c v f t deep d at))
+          let-done k z n =
               let b = let-is c ss v f t deep d at w nd e name (l .next) s u g h i j in
-              (k ∙ b .next, wrote-as (sym (let-bytes c ss v f t deep d at u (l .next) b)) (then x (then y z)))
+              (k ∙ b .next, (wrote-as (sym (let-bytes c ss v f t deep d at u (l .next) b)) (then x (then y z)), n ∙ b .type-as))
 
-  -- A BLOCK: p is its entry, u the table with its scope open, k the kind of its record
-  module _ {o : List ℕ} {to : ℕ} (r : Room o to (encode (dataAt c v f t deep d at))) (single : Bool) (count : ℕ) (g : nodeAt v at ≡ blockNode single count)
+  -- A BLOCK: p is its entry, u the table with its scope open, k and q the kind and the op of its record
+  module _ {o : List ℕ} {to : ℕ} (r : Room o to (encode (dataAt c v f t deep d at))) (asked : Asked) (count : ℕ) (g : nodeAt v at ≡ blockNode asked count)
       (p : Opened) (i : p ≡ openedBy ss (tablesNamed (tablesFrom c (f .nc) (f .nc) 0) (namesAt v (at + 1) count))) (u : List Scope) (j : u ≡ set t deep (p .scope))
-      (k : ℕ) (n : k ≡ blockKind single) {o₁ : List ℕ} {a : ℕ} (x : Wrote o to (recBytes k 0 count 0 0) o₁ a) where
-    exists-way : single ≡ false → ExistsIs c ss v f t u deep d at count (p .scope)
-    exists-way e = exists-is c ss v f t deep d at w single count g p i u j e
+      (k q : ℕ) (n : k ≡ blockKind asked) (m : q ≡ blockOp asked) {o₁ : List ℕ} {a : ℕ} (x : Wrote o to (recBytes k q count 0 0) o₁ a) where
+    exists-way : (y : Fold) → asked ≡ ask.Rows y → ExistsIs c ss v f t u deep d at count y (p .scope)
+    exists-way y e = exists-is c ss v f t deep d at w asked count g p i u j y e
 
-    single-way : (m : ℕ) → single ≡ true → m ≡ nextAt v f (d - 1) (at + 1 + count) → SingleIs c ss v f t u deep d at count m (p .scope)
-    single-way m e h = single-is c ss v f t deep d at w single count g p i u j m e h
+    single-way : (y : Pick) (l : ℕ) → asked ≡ ask.Values y → l ≡ nextAt v f (d - 1) (at + 1 + count) → SingleIs c ss v f t u deep d at count l y (p .scope)
+    single-way y l e h = single-is c ss v f t deep d at w asked count g p i u j y l e h
 
     pub tables-ask : Tabled c (f .nc) ss (f .tables) v (at + 1) count × Room o₁ a (tableRecs (nums (refsAt c (f .nc) v (at + 1) count)))
-    tables-ask = (block-is c ss v f t deep d at w single count g p i u j .tabled, go single refl)
+    tables-ask = (block-is c ss v f t deep d at w asked count g p i u j .tabled, go asked refl)
       where
-        go : (b : Bool) → single ≡ b → Room o₁ a (tableRecs (nums (refsAt c (f .nc) v (at + 1) count)))
-        go false e = front _ (after x (room-as (exists-bytes c ss v f t deep d at single count (p .scope) u k n e (exists-way e)) r))
-        go true e = front _ (after x (room-as (single-bytes c ss v f t deep d at single count (p .scope) u k n _ e (single-way _ e refl)) r))
+        go : (b : Asked) → asked ≡ b → Room o₁ a (tableRecs (nums (refsAt c (f .nc) v (at + 1) count)))
+        go (ask.Rows s) e = front _ (after x (room-as (exists-bytes c ss v f t deep d at asked count (p .scope) u k q n m s e (exists-way s e)) r))
+        go (ask.Values s) e = front _ (after x (room-as (single-bytes c ss v f t deep d at asked count (p .scope) u k q n m s _ e (single-way s _ e refl)) r))
 
     module _ {o₂ : List ℕ} {b : ℕ} (y : Wrote o₁ a (tableRecs (nums (refsAt c (f .nc) v (at + 1) count))) o₂ b) where
       pub where-asks : Accepted c ss v f u (deep + 1) (d - 1) (at + 1 + count) × Room o₂ b (encode (dataAt c v f u (deep + 1) (d - 1) (at + 1 + count)))
-      where-asks = (block-is c ss v f t deep d at w single count g p i u j .test, go single refl)
+      where-asks = (block-is c ss v f t deep d at w asked count g p i u j .test, go asked refl)
         where
-          go : (z : Bool) → single ≡ z → Room o₂ b (encode (dataAt c v f u (deep + 1) (d - 1) (at + 1 + count)))
-          go false e = after y (after x (room-as (exists-bytes c ss v f t deep d at single count (p .scope) u k n e (exists-way e)) r))
-          go true e = front _ (after y (after x (room-as (single-bytes c ss v f t deep d at single count (p .scope) u k n _ e (single-way _ e refl)) r)))
+          go : (z : Asked) → asked ≡ z → Room o₂ b (encode (dataAt c v f u (deep + 1) (d - 1) (at + 1 + count)))
+          go (ask.Rows s) e = after y (after x (room-as (exists-bytes c ss v f t deep d at asked count (p .scope) u k q n m s e (exists-way s e)) r))
+          go (ask.Values s) e = front _ (after y (after x (room-as (single-bytes c ss v f t deep d at asked count (p .scope) u k q n m s _ e (single-way s _ e refl)) r)))
 
-      module _ {l : Pos} {o₃ : List ℕ} (h : l .next ≡ nextAt v f (d - 1) (at + 1 + count)) (z : Wrote o₂ b (encode (dataAt c v f u (deep + 1) (d - 1) (at + 1 + count))) o₃ (l .to)) where
-        pub exists-done : single ≡ false → (l .next ≡ nextAt v f d at) × Wrote o to (encode (dataAt c v f t deep d at)) o₃ (l .to)
-        exists-done e =
-            let q = exists-way e in
-            (h ∙ q .next, wrote-as (sym (exists-bytes c ss v f t deep d at single count (p .scope) u k n e q)) (then x (then y z)))
+      module _ (l : Pos) {o₃ : List ℕ} (h : l .next ≡ nextAt v f (d - 1) (at + 1 + count)) (z : Wrote o₂ b (encode (dataAt c v f u (deep + 1) (d - 1) (at + 1 + count))) o₃ (l .to)) where
+        pub exists-done : {s : Fold} {ty : Ty} → asked ≡ ask.Rows s → ty ≡ foldType s
+            → (l .next ≡ nextAt v f d at) × (Wrote o to (encode (dataAt c v f t deep d at)) o₃ (l .to) × (ty ≡ typeAt c v f t deep d at))
+        exists-done {s} e b₁ =
+            let is = exists-way s e in
+            (h ∙ is .next, (wrote-as (sym (exists-bytes c ss v f t deep d at asked count (p .scope) u k q n m s e is)) (then x (then y z)), b₁ ∙ is .type-as))
 
-        pub single-asks : single ≡ true → Accepted c ss v f u (deep + 1) (d - 1) (l .next) × Room o₃ (l .to) (encode (dataAt c v f u (deep + 1) (d - 1) (l .next)))
-        single-asks e =
-            let q = single-way (l .next) e h in
-            (q .value, after z (after y (after x (room-as (single-bytes c ss v f t deep d at single count (p .scope) u k n (l .next) e q) r))))
+        pub single-asks : {s : Pick} → asked ≡ ask.Values s → Accepted c ss v f u (deep + 1) (d - 1) (l .next) × Room o₃ (l .to) (encode (dataAt c v f u (deep + 1) (d - 1) (l .next)))
+        single-asks {s} e =
+            let is = single-way s (l .next) e h in
+            (is .value, after z (after y (after x (room-as (single-bytes c ss v f t deep d at asked count (p .scope) u k q n m s (l .next) e is) r))))
 
-        pub single-done : {m : Pos} {o₄ : List ℕ} → single ≡ true → m .next ≡ nextAt v f (d - 1) (l .next) → Wrote o₃ (l .to) (encode (dataAt c v f u (deep + 1) (d - 1) (l .next))) o₄ (m .to)
-            → (m .next ≡ nextAt v f d at) × Wrote o to (encode (dataAt c v f t deep d at)) o₄ (m .to)
-        single-done e s y₁ =
-            let q = single-way (l .next) e h in
-            (s ∙ q .next, wrote-as (sym (single-bytes c ss v f t deep d at single count (p .scope) u k n (l .next) e q)) (then x (then y (then z y₁))))
+        pub single-done : {s : Pick} {e : Pos} {o₄ : List ℕ} → asked ≡ ask.Values s → e .next ≡ nextAt v f (d - 1) (l .next) → Wrote o₃ (l .to) (encode (dataAt c v f u (deep + 1) (d - 1) (l .next))) o₄ (e .to)
+            → e .ty ≡ typeAt c v f u (deep + 1) (d - 1) (l .next)
+            → (e .next ≡ nextAt v f d at) × (Wrote o to (encode (dataAt c v f t deep d at)) o₄ (e .to) × (e .ty ≡ typeAt c v f t deep d at))
+        single-done {s} b₁ k₁ y₁ n₁ =
+            let is = single-way s (l .next) b₁ h in
+            (k₁ ∙ is .next, (wrote-as (sym (single-bytes c ss v f t deep d at asked count (p .scope) u k q n m s (l .next) b₁ is)) (then x (then y (then z y₁))), n₁ ∙ is .type-as))

@@ -2,7 +2,7 @@
 -- Assumes nothing.
 use Prim.Native.Nat.{ℕ, _+_, _*_, _<_, _≤_}
 use mathlib.Core.Path.{_≡_}
-use mathlib.Core.Bool.{Bool, cond}
+use mathlib.Core.Bool.{cond}
 use mathlib.Core.List.{List, []}
 use lib.ListN.{length, getD}
 use Rattle.word.specs.Record.{recBytes}
@@ -19,6 +19,7 @@ use Rattle.view.specs.Ast as ast
 use Rattle.view.specs.Parse.{namesAt, parseValue}
 use Rattle.view.specs.declared.Node.{Node}
 use Rattle.view.specs.declared.Node.the-variants.{Const, Binop, Not, If, Exists, Single, Table, Select, Col, Classof, Let, Bad}
+use Rattle.scope.specs.Words.{typeIn}
 use Rattle.scope.specs.Table.{blank, scopesOf, infosOf}
 use Rattle.scope.specs.Blocks.{all, tablesNamed, refsOf}
 use Rattle.scope.specs.declared.Scope.{Scope}
@@ -29,8 +30,10 @@ use Rattle.resolve.specs.Expr as expr
 use Rattle.resolve.specs.Resolve.{Out, good, bad, brought, resolve}
 use Rattle.resolve.specs.Infos.{classInfo}
 use Rattle.resolve.specs.Claims.{Ready}
+use Rattle.resolve.specs.declared.Asked.{Asked}
+use Rattle.resolve.specs.declared.Asked.the-variants as ask
 use Rattle.resolve.specs.declared.Files.{Files}
-use Rattle.tree.specs.Tree.{Tree, CONST, DATA, CELLCLASS, LOCAL}
+use Rattle.tree.specs.Tree.{Tree, CONST, DATA, CELLCLASS, LOCAL, foldKind, foldOp, pickKind}
 use Rattle.tree.specs.Trans.{D}
 
 -- what was read; a null constant where nothing was
@@ -81,7 +84,7 @@ pub record Narrow (t : Ty) : Type 0 where
 pub record Accepted (c ss v : List ℕ) (f : Files) (t : List Scope) (deep d at : ℕ) : Type 0 where
   pub ready : Ready c ss v f t deep d at
   pub resolved : outAt c v f t deep d at ≡ good (exprAt c v f t deep d at) (typeAt c v f t deep d at)
-  pub narrow : (j : ℕ) → j < deep → Narrow (getD t j blank .ty)
+  pub narrow : (j : ℕ) → j < deep → Narrow (typeIn (getD t j blank))
 
 -- the tables that so many TABLE records name, from record `at` on, over n records of a catalogue
 unfoldable pub refsAt : List ℕ → ℕ → List ℕ → ℕ → ℕ → List TabRef
@@ -106,8 +109,8 @@ constTree (Const t x) = CONST t x
 constTree (Binop op) = CONST T.Null X.Null
 constTree Not = CONST T.Null X.Null
 constTree If = CONST T.Null X.Null
-constTree (Exists a) = CONST T.Null X.Null
-constTree (Single a) = CONST T.Null X.Null
+constTree (Exists a f) = CONST T.Null X.Null
+constTree (Single a g) = CONST T.Null X.Null
 constTree (Table name) = CONST T.Null X.Null
 constTree (Select a b) = CONST T.Null X.Null
 constTree (Col name q) = CONST T.Null X.Null
@@ -128,10 +131,22 @@ classTree (F.Local a t i) = CONST T.Null X.Null
 classTree F.None = CONST T.Null X.Null
 classTree F.Ambiguous = CONST T.Null X.Null
 
+-- the type of what a name finds; null where it finds nothing, or more than one
+unfoldable pub foundType : Found → Ty
+foundType (F.Column a b c t i r) = t
+foundType (F.Local a t i) = t
+foundType F.None = T.Null
+foundType F.Ambiguous = T.Null
+
 -- the record before a limb of type s under IF of type t: CONV where they differ
 unfoldable pub convBytes : Ty → Ty → List ℕ
 convBytes s t = cond (sameType s t) [] (recBytes 22 (16 * digitsOf t + scaleOf t) 0 0 0)
 
--- the kind of a block's record: VALUE, or EXISTS
-unfoldable pub blockKind : Bool → ℕ
-blockKind single = cond single 11 10
+-- the kind and the op of a block's record, by what is asked of it
+unfoldable pub blockKind : Asked → ℕ
+blockKind (ask.Rows f) = foldKind f
+blockKind (ask.Values g) = pickKind g
+
+unfoldable pub blockOp : Asked → ℕ
+blockOp (ask.Rows f) = foldOp f
+blockOp (ask.Values g) = 0

@@ -10,6 +10,8 @@ use Rattle.word.specs.Bytes.{u16At, within}
 use Rattle.word.specs.declared.Rec.{Rec}
 use Rattle.cell.specs.Res.{Res, stuck, done, bind}
 use Rattle.view.specs.Record.{constOf, constRec}
+use Rattle.view.specs.declared.Fold.the-variants as fold
+use Rattle.view.specs.declared.Pick.the-variants as pick
 use Rattle.view.specs.declared.Node.{Node}
 use Rattle.view.specs.declared.Node.the-variants.{Const, Binop, Not, If, Exists, Single, Table, Select, Col, Classof, Let, Bad}
 use Rattle.tree.specs.Tree.{Tree, CONST, BINOP, NOT, IF, EXISTS, VALUE, DATA, CELLCLASS, ROWCLASS, LOCAL, LOCALCLASS, CONV, BIND, BINDC, LUB, DOM, AGG}
@@ -49,8 +51,8 @@ constForm (Const t x) = leaf (CONST t x)
 constForm (Binop op) = nothing
 constForm Not = nothing
 constForm If = nothing
-constForm (Exists a) = nothing
-constForm (Single a) = nothing
+constForm (Exists a f) = nothing
+constForm (Single a g) = nothing
 constForm (Table name) = nothing
 constForm (Select a b) = nothing
 constForm (Col name q) = nothing
@@ -64,8 +66,8 @@ formOf r =
     (cond (eqb (r .kind) 7) (two (BINOP (r .op) (r .a)))
     (cond (eqb (r .kind) 8) (one NOT)
     (cond (eqb (r .kind) 9) (three IF)
-    (cond (eqb (r .kind) 10) (block (r .a) EXISTS)
-    (cond (eqb (r .kind) 11) (valued (r .a) VALUE)
+    (cond (eqb (r .kind) 10) (block (r .a) (EXISTS fold.Any))
+    (cond (eqb (r .kind) 11) (valued (r .a) (VALUE pick.Only))
     (cond (eqb (r .kind) 17) (leaf (DATA (r .a) (r .b) (r .c)))
     (cond (eqb (r .kind) 18) (leaf (CELLCLASS (r .a) (r .b) (r .c)))
     (cond (eqb (r .kind) 19) (leaf (ROWCLASS (r .a) (r .b)))
@@ -77,7 +79,10 @@ formOf r =
     (cond (eqb (r .kind) 25) (two LUB)
     (cond (eqb (r .kind) 26) (two DOM)
     (cond (eqb (r .kind) 27) (block (r .a) AGG)
-    nothing))))))))))))))))
+    (cond (eqb (r .kind) 28) (block (r .a) (EXISTS (fold.Count (r .op / 16))))
+    (cond (eqb (r .kind) 29) (valued (r .a) (VALUE pick.Greatest))
+    (cond (eqb (r .kind) 30) (valued (r .a) (VALUE pick.Least))
+    nothing)))))))))))))))))))
 
 -- the children, given their reader
 unfoldable pub readForm : Read Tree → Form → Read Tree
@@ -101,8 +106,8 @@ height (CONST t v) = 0
 height (BINOP op p x y) = 1 + max (height x) (height y)
 height (NOT x) = 1 + height x
 height (IF c x y) = 1 + max (height c) (max (height x) (height y))
-height (EXISTS ns w) = 1 + height w
-height (VALUE ns w v) = 1 + max (height w) (height v)
+height (EXISTS f ns w) = 1 + height w
+height (VALUE g ns w v) = 1 + max (height w) (height v)
 height (DATA a b c) = 0
 height (CELLCLASS a b c) = 0
 height (ROWCLASS a b) = 0
@@ -121,8 +126,8 @@ Fits (CONST t v) = constOf (constRec t v) ≡ Const t v
 Fits (BINOP op p x y) = Fits x × Fits y
 Fits (NOT x) = Fits x
 Fits (IF c x y) = Fits c × Fits x × Fits y
-Fits (EXISTS ns w) = Fits w
-Fits (VALUE ns w v) = Fits w × Fits v
+Fits (EXISTS f ns w) = Fits w
+Fits (VALUE g ns w v) = Fits w × Fits v
 Fits (DATA a b c) = Unit {0}
 Fits (CELLCLASS a b c) = Unit {0}
 Fits (ROWCLASS a b) = Unit {0}

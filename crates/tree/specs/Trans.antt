@@ -28,8 +28,8 @@ D (expr.Expr.neg x) = NOT (D x)
 D (expr.Expr.conv p s x) = CONV p s (D x)
 D (expr.Expr.if c x y) = IF (D c) (D x) (D y)
 D (expr.Expr.letin x y) = BIND (D x) (D y)
-D (expr.Expr.exists ts w) = EXISTS (nums ts) (D w)
-D (expr.Expr.single ts w v) = VALUE (nums ts) (D w) (D v)
+D (expr.Expr.exists f ts w) = EXISTS f (nums ts) (D w)
+D (expr.Expr.single g ts w v) = VALUE g (nums ts) (D w) (D v)
 
 -- a class: fixed, or a tree with a bound
 pub data Class : Type 0 where
@@ -107,6 +107,6 @@ C k is (expr.Expr.neg x) = C k is x
 C k is (expr.Expr.conv p s x) = C k is x
 C k is (expr.Expr.if c x y) = join (C k is c) (choice (D c) (C k is x) (C k is y))
 C k is (expr.Expr.letin x y) = letClass (D x) (C k is x) (C k (infoOf (C k is x) ∷ is) y)
-C k is (expr.Expr.exists ts w) = blockClass ts (C k (Fixed 0 ∷ is) w ∷ [])
-C k is (expr.Expr.single ts w v) =
+C k is (expr.Expr.exists f ts w) = blockClass ts (C k (Fixed 0 ∷ is) w ∷ [])
+C k is (expr.Expr.single g ts w v) =
     blockClass ts (C k (Fixed 0 ∷ is) w ∷ choice (D w) (C k (Fixed 0 ∷ is) v) (fixed 0) ∷ [])

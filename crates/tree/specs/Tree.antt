@@ -10,6 +10,10 @@ use Rattle.cell.specs.declared.Type.the-variants as T
 use Rattle.cell.specs.declared.Value.{Value}
 use Rattle.cell.specs.declared.Value.the-variants as X
 use Rattle.view.specs.Record.{constRec}
+use Rattle.view.specs.declared.Fold.{Fold}
+use Rattle.view.specs.declared.Fold.the-variants as fold
+use Rattle.view.specs.declared.Pick.{Pick}
+use Rattle.view.specs.declared.Pick.the-variants as pick
 use Rattle.word.specs.declared.Rec.{Rec}
 
 pub data Tree : Type 0 where
@@ -17,8 +21,9 @@ pub data Tree : Type 0 where
   BINOP : ℕ → ℕ → Tree → Tree → Tree
   NOT : Tree → Tree
   IF : Tree → Tree → Tree → Tree
-  EXISTS : List ℕ → Tree → Tree
-  VALUE : List ℕ → Tree → Tree → Tree
+  -- EXISTS or COUNT; VALUE, MAX or MIN
+  EXISTS : Fold → List ℕ → Tree → Tree
+  VALUE : Pick → List ℕ → Tree → Tree → Tree
   DATA : ℕ → ℕ → ℕ → Tree
   CELLCLASS : ℕ → ℕ → ℕ → Tree
   ROWCLASS : ℕ → ℕ → Tree
@@ -47,8 +52,8 @@ size (CONST t v) = 1
 size (BINOP op p x y) = 1 + (size x + size y)
 size (NOT x) = 1 + size x
 size (IF c x y) = 1 + (size c + (size x + size y))
-size (EXISTS ns w) = 1 + (length ns + size w)
-size (VALUE ns w v) = 1 + (length ns + (size w + size v))
+size (EXISTS f ns w) = 1 + (length ns + size w)
+size (VALUE g ns w v) = 1 + (length ns + (size w + size v))
 size (DATA a b c) = 1
 size (CELLCLASS a b c) = 1
 size (ROWCLASS a b) = 1
@@ -77,14 +82,28 @@ unfoldable pub tableRecs : List ℕ → List ℕ
 tableRecs [] = []
 tableRecs (n ∷ ns) = recBytes 12 0 n 0 0 ++ tableRecs ns
 
+-- the kind and the op of the record of EXISTS, COUNT, VALUE, MAX, MIN
+unfoldable pub foldKind : Fold → ℕ
+foldKind fold.Any = 10
+foldKind (fold.Count p) = 28
+
+unfoldable pub foldOp : Fold → ℕ
+foldOp fold.Any = 0
+foldOp (fold.Count p) = 16 * p
+
+unfoldable pub pickKind : Pick → ℕ
+pickKind pick.Only = 11
+pickKind pick.Greatest = 29
+pickKind pick.Least = 30
+
 -- a tree in prefix order: a record, then its children
 unfoldable pub encode : Tree → List ℕ
 encode (CONST t v) = recOf (constRec t v)
 encode (BINOP op p x y) = recBytes 7 op p 0 0 ++ (encode x ++ encode y)
 encode (NOT x) = recBytes 8 0 0 0 0 ++ encode x
 encode (IF c x y) = recBytes 9 0 0 0 0 ++ (encode c ++ (encode x ++ encode y))
-encode (EXISTS ns w) = recBytes 10 0 (length ns) 0 0 ++ (tableRecs ns ++ encode w)
-encode (VALUE ns w v) = recBytes 11 0 (length ns) 0 0 ++ (tableRecs ns ++ (encode w ++ encode v))
+encode (EXISTS f ns w) = recBytes (foldKind f) (foldOp f) (length ns) 0 0 ++ (tableRecs ns ++ encode w)
+encode (VALUE g ns w v) = recBytes (pickKind g) 0 (length ns) 0 0 ++ (tableRecs ns ++ (encode w ++ encode v))
 encode (DATA a b c) = recBytes 17 0 a b c
 encode (CELLCLASS a b c) = recBytes 18 0 a b c
 encode (ROWCLASS a b) = recBytes 19 0 a b 0

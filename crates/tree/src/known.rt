@@ -1,9 +1,11 @@
-// What the walk of names and types knows of an accepted value: its type, and the entry of a local that is bound to it.
+// What is known of an accepted value: by the walk of names and types its type and the entry of a local that is bound to it; its type from its parts' types.
 // The value at a record is that of specs/Claims.
 ghost use mathlib.Core.Path.{_≡_};
-ghost use Rattle.cell.specs.Types.{digitsOf};
+ghost use Rattle.cell.specs.Res.{orElse};
+ghost use Rattle.cell.specs.Types.{digitsOf, binopType};
+ghost use Rattle.cell.specs.declared.Type.the-variants.{Null};
 ghost use Rattle.scope.specs.Entry.{localScope};
-ghost use Rattle.tree.specs.Claims.{typeAt, infoAt, Accepted};
+ghost use Rattle.tree.specs.Claims.{typeAt, infoAt, Accepted, foundType};
 
 // Its type.
 pub fn type_at(
@@ -26,30 +28,6 @@ pub fn type_at(
         }
         resolve::Typed::Refused(_, _) => cell::Type::Null,
     }
-}
-
-fn wide(x: u8) -> u16
-    ensures { λ r. ⌜ r ≡ x ⌝ }
-{
-    x as u16
-}
-
-// The digits of its type; 0 where that isn't fixed.
-pub fn digits_at(
-    cat: &[u8],
-    starts: &[u16; 32],
-    view: &[u8],
-    f: resolve::Files,
-    at: usize,
-    depth: usize,
-    t: [scope::Scope; 16],
-    deep: usize,
-) -> u16
-    requires { ⌜ Accepted (now cat) (now starts) (now view) f t deep depth at ⌝ }
-    ensures { λ r. ⌜ r ≡ digitsOf (typeAt (now (cat .entry)) (now (view .entry)) f t deep depth at) ⌝ }
-{
-    let ty = type_at(cat, starts, view, f, at, depth, t, deep);
-    wide(cell::digits_of(ty))
 }
 
 // The entry of the local of this name that is bound to it.
@@ -76,5 +54,34 @@ pub fn local_at(
         resolve::Typed::Refused(_, _) => {
             scope::local_scope(name, cell::Type::Null, class::Info::Fixed(0))
         }
+    }
+}
+
+// The type of BINOP over operands of types s and t; null where the rule is broken.
+pub fn binop_type(op: u8, s: cell::Type, t: cell::Type) -> cell::Type
+    ensures { λ r. ⌜ r ≡ orElse Null (binopType op s t) ⌝ }
+{
+    match cell::binop_type(op, s, t) {
+        cell::Judged::Is(ty) => ty,
+        cell::Judged::Broken => cell::Type::Null,
+    }
+}
+
+// The digits of a type; 0 where it isn't fixed.
+pub fn digits_of(ty: cell::Type) -> u16
+    ensures { λ r. ⌜ r ≡ digitsOf ty ⌝ }
+{
+    cell::digits_of(ty) as u16
+}
+
+// The type of what a name finds; null where it finds nothing, or more than one.
+pub fn found_type(h: scope::Found) -> cell::Type
+    ensures { λ r. ⌜ r ≡ foundType h ⌝ }
+{
+    match h {
+        scope::Found::Column(_, _, _, ty, _, _) => ty,
+        scope::Found::Local(_, ty, _) => ty,
+        scope::Found::None => cell::Type::Null,
+        scope::Found::Ambiguous => cell::Type::Null,
     }
 }

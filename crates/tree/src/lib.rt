@@ -10,12 +10,13 @@ ghost use Rattle.word.specs.Buffer.{Wrote, Room};
 ghost use Rattle.view.specs.Record.{nodeAt};
 ghost use Rattle.resolve.specs.Claims.{blockNode};
 ghost use Rattle.tree.specs.Tree.{encode};
-ghost use Rattle.tree.specs.Claims.{dataAt, limbAt, nextAt, Narrow, Accepted};
+ghost use Rattle.tree.specs.Claims.{typeAt, dataAt, limbAt, nextAt, Narrow, Accepted};
 
-// Where a writer stands after a value: the next record of the view, and the place in the buffer.
+// Where a writer stands after a value: the next record of the view, and the place in the buffer; and the value's type.
 pub struct Pos {
     pub next: usize,
     pub to: usize,
+    pub ty: cell::Type,
 }
 
 // The data tree of the value at a record, with depth levels left, in the scopes of t that are open.
@@ -35,19 +36,28 @@ pub fn write_d(
     requires { ⌜ Room (now out) to (encode (dataAt (now cat) (now view) f t deep depth at)) ⌝ }
     ensures { λ r. ⌜ r .next ≡ nextAt (now (view .entry)) f depth at ⌝ }
     ensures { λ r. ⌜ Wrote (now (out .entry)) to (encode (dataAt (now (cat .entry)) (now (view .entry)) f t deep depth at)) (now (out .exit)) (r .to) ⌝ }
+    ensures { λ r. ⌜ r .ty ≡ typeAt (now (cat .entry)) (now (view .entry)) f t deep depth at ⌝ }
 {
     let next = at + 1;
     let down = depth - 1;
     match view::node_at(view, at) {
-        view::Node::Const(_, _) => {
+        view::Node::Const(ty, _) => {
             let a = records::copy_const(view, at, out, to);
-            Pos { next, to: a }
+            Pos { next, to: a, ty }
         }
         view::Node::Binop(op) => {
-            let p = known::digits_at(cat, starts, view, f, at, depth, t, deep);
-            let a = word::put_rec(out, to, 7, op, p, 0, 0);
-            let x = write_d(cat, starts, view, f, next, down, t, deep, out, a);
-            write_d(cat, starts, view, f, x.next, down, t, deep, out, x.to)
+            let x = write_d(cat, starts, view, f, next, down, t, deep, out, to + 8);
+            let y = write_d(cat, starts, view, f, x.next, down, t, deep, out, x.to);
+            let r = x.ty;
+            let s = y.ty;
+            let ty = known::binop_type(op, r, s);
+            let p = known::digits_of(ty);
+            word::put_rec(out, to, 7, op, p, 0, 0);
+            Pos {
+                next: y.next,
+                to: y.to,
+                ty,
+            }
         }
         view::Node::Not => {
             let a = word::put_rec(out, to, 8, 0, 0, 0, 0);
@@ -58,9 +68,14 @@ pub fn write_d(
             let a = word::put_rec(out, to, 9, 0, 0, 0, 0);
             let x = write_d(cat, starts, view, f, next, down, t, deep, out, a);
             let y = write_limb(cat, starts, view, f, x.next, down, t, deep, ty, out, x.to);
-            write_limb(cat, starts, view, f, y.next, down, t, deep, ty, out, y.to)
+            let z = write_limb(cat, starts, view, f, y.next, down, t, deep, ty, out, y.to);
+            Pos {
+                next: z.next,
+                to: z.to,
+                ty,
+            }
         }
-        view::Node::Exists(a) => {
+        view::Node::Exists(a, q) => {
             write_block(
                 cat,
                 starts,
@@ -71,12 +86,12 @@ pub fn write_d(
                 t,
                 deep,
                 a as usize,
-                false,
+                resolve::Asked::Rows(q),
                 out,
                 to,
             )
         }
-        view::Node::Single(a) => {
+        view::Node::Single(a, g) => {
             write_block(
                 cat,
                 starts,
@@ -87,7 +102,7 @@ pub fn write_d(
                 t,
                 deep,
                 a as usize,
-                true,
+                resolve::Asked::Values(g),
                 out,
                 to,
             )
@@ -95,12 +110,17 @@ pub fn write_d(
         view::Node::Col(name, q) => {
             let h = scope::find(t, cat, f.nc, deep, name, q);
             let a = records::put_column(h, out, to);
-            Pos { next, to: a }
+            let ty = known::found_type(h);
+            Pos { next, to: a, ty }
         }
         view::Node::Classof(name, q) => {
             let h = scope::find(t, cat, f.nc, deep, name, q);
             let a = records::put_cell_class(h, out, to);
-            Pos { next, to: a }
+            Pos {
+                next,
+                to: a,
+                ty: cell::Type::Class,
+            }
         }
         view::Node::Let(name) => {
             let s = known::local_at(cat, starts, view, f, next, down, t, deep, name);
@@ -109,9 +129,21 @@ pub fn write_d(
             let x = write_d(cat, starts, view, f, next, down, t, deep, out, a);
             write_d(cat, starts, view, f, x.next, down, u, deep + 1, out, x.to)
         }
-        view::Node::Table(_) => Pos { next, to },
-        view::Node::Select(_, _) => Pos { next, to },
-        view::Node::Bad => Pos { next, to },
+        view::Node::Table(_) => Pos {
+            next,
+            to,
+            ty: cell::Type::Null,
+        },
+        view::Node::Select(_, _) => Pos {
+            next,
+            to,
+            ty: cell::Type::Null,
+        },
+        view::Node::Bad => Pos {
+            next,
+            to,
+            ty: cell::Type::Null,
+        },
     }
 }
 
@@ -134,13 +166,14 @@ fn write_limb(
     requires { ⌜ Room (now out) to (encode (limbAt (now cat) (now view) f t deep depth at ty)) ⌝ }
     ensures { λ r. ⌜ r .next ≡ nextAt (now (view .entry)) f depth at ⌝ }
     ensures { λ r. ⌜ Wrote (now (out .entry)) to (encode (limbAt (now (cat .entry)) (now (view .entry)) f t deep depth at ty)) (now (out .exit)) (r .to) ⌝ }
+    ensures { λ r. ⌜ r .ty ≡ typeAt (now (cat .entry)) (now (view .entry)) f t deep depth at ⌝ }
 {
     let own = known::type_at(cat, starts, view, f, at, depth, t, deep);
     let a = records::put_conv(own, ty, out, to);
     write_d(cat, starts, view, f, at, depth, t, deep, out, a)
 }
 
-// EXISTS, or VALUE where `single` says so: the tables' numbers, then the where and the value in the block's scope.
+// A block of whose rows or values something is asked: the tables' numbers, then the where and the value in the block's scope.
 fn write_block(
     cat: &[u8],
     starts: &[u16; 32],
@@ -151,22 +184,24 @@ fn write_block(
     t: [scope::Scope; 16],
     deep: usize,
     count: usize,
-    single: bool,
+    asked: resolve::Asked,
     out: &mut [u8],
     to: usize,
 ) -> Pos
-    requires { ⌜ Accepted (now cat) (now starts) (now view) f t deep depth at × (nodeAt (now view) at ≡ blockNode single count) ⌝ }
+    requires { ⌜ Accepted (now cat) (now starts) (now view) f t deep depth at × (nodeAt (now view) at ≡ blockNode asked count) ⌝ }
     requires { ⌜ Room (now out) to (encode (dataAt (now cat) (now view) f t deep depth at)) ⌝ }
     ensures { λ r. ⌜ r .next ≡ nextAt (now (view .entry)) f depth at ⌝ }
     ensures { λ r. ⌜ Wrote (now (out .entry)) to (encode (dataAt (now (cat .entry)) (now (view .entry)) f t deep depth at)) (now (out .exit)) (r .to) ⌝ }
+    ensures { λ r. ⌜ r .ty ≡ typeAt (now (cat .entry)) (now (view .entry)) f t deep depth at ⌝ }
 {
     let next = at + 1;
     let down = depth - 1;
     let o = scope::open_block(cat, f.nc, starts, f.tables, view, next, count);
     let s = o.scope;
     let u = scope::pushed(t, deep, s);
-    let kind = records::block_kind(single);
-    let a = word::put_rec(out, to, kind, 0, count as u16, 0, 0);
+    let kind = records::block_kind(asked);
+    let op = records::block_op(asked);
+    let a = word::put_rec(out, to, kind, op, count as u16, 0, 0);
     let b = records::table_recs(cat, f.nc, starts, f.tables, view, next, count, out, a);
     let x = write_d(
         cat,
@@ -180,9 +215,17 @@ fn write_block(
         out,
         b,
     );
-    if single {
-        write_d(cat, starts, view, f, x.next, down, u, deep + 1, out, x.to)
-    } else {
-        x
+    match asked {
+        resolve::Asked::Rows(q) => {
+            let ty = resolve::fold_type(q);
+            Pos {
+                next: x.next,
+                to: x.to,
+                ty,
+            }
+        }
+        resolve::Asked::Values(_) => {
+            write_d(cat, starts, view, f, x.next, down, u, deep + 1, out, x.to)
+        }
     }
 }

@@ -1,13 +1,13 @@
 // The records of a data tree that have no children of their own to write: constants, names, CONV, TABLE.
 // A writer returns the place after what it wrote.
 ghost use mathlib.Core.Path.{_≡_};
-ghost use Prim.Native.Nat.{_+_, _*_, _≤_};
+ghost use Prim.Native.Nat.{_+_, _*_, _≤_, _<_};
 ghost use lib.ListN.{length};
 ghost use Rattle.word.specs.Buffer.{Wrote, Room};
 ghost use Rattle.view.specs.Record.{nodeAt};
-ghost use Rattle.tree.specs.Tree.{encode, tableRecs};
+ghost use Rattle.tree.specs.Tree.{encode, tableRecs, foldKind, foldOp, pickKind};
 ghost use Rattle.tree.specs.Trans.{nums};
-ghost use Rattle.tree.specs.Claims.{Narrow, refsAt, Tabled, IsConst, constTree, colTree, classTree, convBytes, blockKind};
+ghost use Rattle.tree.specs.Claims.{Narrow, refsAt, Tabled, IsConst, constTree, colTree, classTree, convBytes, blockKind, blockOp};
 
 // The constant at a record of a view: its record again.
 pub fn copy_const(view: &[u8], at: usize, out: &mut [u8], to: usize) -> usize
@@ -59,11 +59,57 @@ pub fn put_conv(s: cell::Type, t: cell::Type, out: &mut [u8], to: usize) -> usiz
     word::put_rec(out, to, 22, op, 0, 0, 0)
 }
 
-// The kind of a block's record: VALUE, or EXISTS.
-pub fn block_kind(single: bool) -> u8
-    ensures { λ r. ⌜ r ≡ blockKind single ⌝ }
+// The kind of the record of EXISTS or COUNT.
+fn fold_kind(f: view::Fold) -> u8
+    ensures { λ r. ⌜ r ≡ foldKind f ⌝ }
 {
-    if single { 11 } else { 10 }
+    match f {
+        view::Fold::Any => 10,
+        view::Fold::Count(_) => 28,
+    }
+}
+
+// Its op: COUNT's digits, 16 times.
+fn fold_op(f: view::Fold) -> u8
+    requires { ⌜ foldOp f < 256 ⌝ }
+    ensures { λ r. ⌜ r ≡ foldOp f ⌝ }
+{
+    match f {
+        view::Fold::Any => 0,
+        view::Fold::Count(p) => 16 * p,
+    }
+}
+
+// The kind of the record of VALUE, MAX or MIN.
+fn pick_kind(g: view::Pick) -> u8
+    ensures { λ r. ⌜ r ≡ pickKind g ⌝ }
+{
+    match g {
+        view::Pick::Only => 11,
+        view::Pick::Greatest => 29,
+        view::Pick::Least => 30,
+    }
+}
+
+// The kind of a block's record, by what is asked of it.
+pub fn block_kind(asked: resolve::Asked) -> u8
+    ensures { λ r. ⌜ r ≡ blockKind asked ⌝ }
+{
+    match asked {
+        resolve::Asked::Rows(f) => fold_kind(f),
+        resolve::Asked::Values(g) => pick_kind(g),
+    }
+}
+
+// Its op.
+pub fn block_op(asked: resolve::Asked) -> u8
+    requires { ⌜ blockOp asked < 256 ⌝ }
+    ensures { λ r. ⌜ r ≡ blockOp asked ⌝ }
+{
+    match asked {
+        resolve::Asked::Rows(f) => fold_op(f),
+        resolve::Asked::Values(_) => 0,
+    }
 }
 
 // The TABLE records of a block, with the tables' numbers.

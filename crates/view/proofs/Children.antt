@@ -9,6 +9,8 @@ use Rattle.view.specs.Ast.{nextOf, WasRead}
 use Rattle.view.specs.Record.{nodeAt}
 use Rattle.view.specs.Parse.{parseValue}
 use Rattle.view.specs.declared.Node.{Node}
+use Rattle.view.specs.declared.Fold.{Fold}
+use Rattle.view.specs.declared.Pick.{Pick}
 use Rattle.view.specs.declared.Node.the-variants.{Const, Binop, Not, If, Exists, Single, Col, Classof, Let}
 use Rattle.view.proofs.Read.{next-is, const-read, col-read, classof-read, not-read, binop-read, let-read, if-read, exists-read, exists-listed, single-read, single-listed, one-first, two-first, two-second, three-first, three-second, three-third, one-next, two-next, three-next}
 
@@ -64,25 +66,25 @@ module _ (v : List ℕ) (n d at : ℕ) {nd : Node} (w : WasRead (parseValue v n 
   if-end f g h i = three-next _ _ _ (if-read v n d at w e f) g h i
 
   -- EXISTS and VALUE: after the TABLE records
-  pub exists-within : {a : ℕ} → nd ≡ Exists a → at + 1 + a ≤ n
+  pub exists-within : {a : ℕ} {q : Fold} → nd ≡ Exists a q → at + 1 + a ≤ n
   exists-within f = exists-listed v n d at w e f .within
 
-  pub exists-child : {a : ℕ} → nd ≡ Exists a → WasRead (parseValue v n (d - 1) (at + 1 + a))
+  pub exists-child : {a : ℕ} {q : Fold} → nd ≡ Exists a q → WasRead (parseValue v n (d - 1) (at + 1 + a))
   exists-child f = one-first _ _ _ (exists-read v n d at w e f)
 
-  pub exists-end : {a m : ℕ} → nd ≡ Exists a → m ≡ nextOf (parseValue v n (d - 1) (at + 1 + a)) → m ≡ nextOf (parseValue v n d at)
+  pub exists-end : {a m : ℕ} {q : Fold} → nd ≡ Exists a q → m ≡ nextOf (parseValue v n (d - 1) (at + 1 + a)) → m ≡ nextOf (parseValue v n d at)
   exists-end f g = one-next _ _ _ (exists-read v n d at w e f) g
 
-  pub single-within : {a : ℕ} → nd ≡ Single a → at + 1 + a ≤ n
+  pub single-within : {a : ℕ} {q : Pick} → nd ≡ Single a q → at + 1 + a ≤ n
   single-within f = single-listed v n d at w e f .within
 
-  pub single-test : {a : ℕ} → nd ≡ Single a → WasRead (parseValue v n (d - 1) (at + 1 + a))
+  pub single-test : {a : ℕ} {q : Pick} → nd ≡ Single a q → WasRead (parseValue v n (d - 1) (at + 1 + a))
   single-test f = two-first _ _ _ (single-read v n d at w e f)
 
-  pub single-value : {a m : ℕ} → nd ≡ Single a → m ≡ nextOf (parseValue v n (d - 1) (at + 1 + a)) → WasRead (parseValue v n (d - 1) m)
+  pub single-value : {a m : ℕ} {q : Pick} → nd ≡ Single a q → m ≡ nextOf (parseValue v n (d - 1) (at + 1 + a)) → WasRead (parseValue v n (d - 1) m)
   single-value f g = two-second _ _ _ (single-read v n d at w e f) g
 
-  pub single-end : {a m l : ℕ} → nd ≡ Single a → m ≡ nextOf (parseValue v n (d - 1) (at + 1 + a)) → l ≡ nextOf (parseValue v n (d - 1) m) → l ≡ nextOf (parseValue v n d at)
+  pub single-end : {a m l : ℕ} {q : Pick} → nd ≡ Single a q → m ≡ nextOf (parseValue v n (d - 1) (at + 1 + a)) → l ≡ nextOf (parseValue v n (d - 1) m) → l ≡ nextOf (parseValue v n d at)
   single-end f g h = two-next _ _ _ (single-read v n d at w e f) g h
 
 pub ruleset children = (const-end, col-end, classof-end, not-child, not-end, binop-left, binop-right, binop-end, let-value, let-body, let-end, if-test, if-then, if-else, if-end, exists-within, exists-child, exists-end, single-within, single-test, single-value, single-end)

@@ -11,6 +11,8 @@ use Rattle.view.specs.Ast as ast
 use Rattle.view.specs.Record.{nodeAt}
 use Rattle.view.specs.Parse.{many, namesAt, parseValue}
 use Rattle.view.specs.declared.Node.{Node}
+use Rattle.view.specs.declared.Fold.{Fold}
+use Rattle.view.specs.declared.Pick.{Pick}
 use Rattle.view.specs.declared.Node.the-variants.{Const, Binop, Not, If, Exists, Single, Table, Select, Col, Classof, Let, Bad}
 use Rattle.view.proofs.Read.{was-read, here-ok, none-ok, more-ok, Listed, const-read, col-read, classof-read, not-read, binop-read, let-read, if-read, exists-read, exists-listed, single-read, single-listed, no-table, no-select, no-bad}
 
@@ -27,8 +29,8 @@ module _ (v : List ℕ) (n : ℕ) (C : ℕ → ℕ → Exp → ℕ → Type 0)
     (on-binop : (d at op : ℕ) (l r : Exp) (m k : ℕ) → 0 < d → at < n → nodeAt v at ≡ Binop op → C (d - 1) (at + 1) l m → C (d - 1) m r k → C d at (ast.Exp.binop at op l r) k)
     (on-let : (d at name : ℕ) (e b : Exp) (m k : ℕ) → 0 < d → at < n → nodeAt v at ≡ Let name → C (d - 1) (at + 1) e m → C (d - 1) m b k → C d at (ast.Exp.letin at name e b) k)
     (on-if : (d at : ℕ) (c l r : Exp) (m j k : ℕ) → 0 < d → at < n → nodeAt v at ≡ If → C (d - 1) (at + 1) c m → C (d - 1) m l j → C (d - 1) j r k → C d at (ast.Exp.if at c l r) k)
-    (on-exists : (d at a : ℕ) (w : Exp) (k : ℕ) → 0 < d → at < n → nodeAt v at ≡ Exists a → Listed v n (at + 1) a → C (d - 1) (at + 1 + a) w k → C d at (ast.Exp.exists at (namesAt v (at + 1) a) w) k)
-    (on-single : (d at a : ℕ) (w e : Exp) (m k : ℕ) → 0 < d → at < n → nodeAt v at ≡ Single a → Listed v n (at + 1) a → C (d - 1) (at + 1 + a) w m → C (d - 1) m e k → C d at (ast.Exp.single at (namesAt v (at + 1) a) w e) k) where
+    (on-exists : (d at a : ℕ) (q : Fold) (w : Exp) (k : ℕ) → 0 < d → at < n → nodeAt v at ≡ Exists a q → Listed v n (at + 1) a → C (d - 1) (at + 1 + a) w k → C d at (ast.Exp.exists at q (namesAt v (at + 1) a) w) k)
+    (on-single : (d at a : ℕ) (q : Pick) (w e : Exp) (m k : ℕ) → 0 < d → at < n → nodeAt v at ≡ Single a q → Listed v n (at + 1) a → C (d - 1) (at + 1 + a) w m → C (d - 1) m e k → C d at (ast.Exp.single at q (namesAt v (at + 1) a) w e) k) where
   step : (d at : ℕ) (e : Exp) (k : ℕ) (h : parseValue v n d at ≡ ok e k) → ((i : ℕ) (f : Exp) (j : ℕ) → parseValue v n (d - 1) i ≡ ok f j → C (d - 1) i f j)
       → 0 < d → at < n → (nd : Node) → nd ≡ nodeAt v at → C d at e k
   step d at e k h ih z l (Const t x) g = same-read (C d at) (const-read v n d at (was-read h) g refl) h (on-const d at t x z l (sym g))
@@ -46,12 +48,12 @@ module _ (v : List ℕ) (n : ℕ) (C : ℕ → ℕ → Exp → ℕ → Type 0)
   step d at e k h ih z l If g =
       let s = if-read v n d at (was-read h) g refl in
       same-read (C d at) (s .whole) h (on-if d at (s .x) (s .y) (s .z) (s .mid) (s .late) (s .end) z l (sym g) (ih _ _ _ (s .first)) (ih _ _ _ (s .second)) (ih _ _ _ (s .third)))
-  step d at e k h ih z l (Exists a) g =
+  step d at e k h ih z l (Exists a q) g =
       let s = exists-read v n d at (was-read h) g refl in
-      same-read (C d at) (s .whole) h (on-exists d at a (s .x) (s .end) z l (sym g) (exists-listed v n d at (was-read h) g refl) (ih _ _ _ (s .first)))
-  step d at e k h ih z l (Single a) g =
+      same-read (C d at) (s .whole) h (on-exists d at a q (s .x) (s .end) z l (sym g) (exists-listed v n d at (was-read h) g refl) (ih _ _ _ (s .first)))
+  step d at e k h ih z l (Single a q) g =
       let s = single-read v n d at (was-read h) g refl in
-      same-read (C d at) (s .whole) h (on-single d at a (s .x) (s .y) (s .mid) (s .end) z l (sym g) (single-listed v n d at (was-read h) g refl) (ih _ _ _ (s .first)) (ih _ _ _ (s .second)))
+      same-read (C d at) (s .whole) h (on-single d at a q (s .x) (s .y) (s .mid) (s .end) z l (sym g) (single-listed v n d at (was-read h) g refl) (ih _ _ _ (s .first)) (ih _ _ _ (s .second)))
   step d at e k h ih z l (Table a) g = absurd (no-table v n d at (was-read h) g refl)
   step d at e k h ih z l (Select a b) g = absurd (no-select v n d at (was-read h) g refl)
   step d at e k h ih z l Bad g = absurd (no-bad v n d at (was-read h) g refl)
@@ -76,8 +78,8 @@ value-ends v n d at h =
     (λ d i op f g m j z l e a b. omega arith)
     (λ d i name f g m j z l e a b. omega arith)
     (λ d i f g h m o j z l e a b c. omega arith)
-    (λ d i t f j z l e u a. omega arith)
-    (λ d i t f g m j z l e u a b. omega arith)
+    (λ d i t q f j z l e u a. omega arith)
+    (λ d i t q f g m j z l e u a b. omega arith)
     d at h
 
 -- so do several in a row

@@ -18,8 +18,10 @@ use Rattle.cell.specs.Types.{digitsRule}
 use Rattle.cell.specs.Values.{digits}
 use Rattle.cell.specs.declared.Type.the-variants as T
 use Rattle.cell.specs.declared.Value.the-variants as X
-use Rattle.view.specs.Record.{when, bare, opOnly, aOnly, constOf, nodeOf, nodeAt}
+use Rattle.view.specs.Record.{when, bare, opOnly, aOnly, counts, constOf, nodeOf, nodeAt}
 use Rattle.view.specs.declared.Node.{Node}
+use Rattle.view.specs.declared.Fold.the-variants as fold
+use Rattle.view.specs.declared.Pick.the-variants as pick
 use Rattle.view.specs.declared.Node.the-variants.{Const, Binop, Not, If, Exists, Single, Table, Select, Col, Classof, Let, Bad}
 use Rattle.view.proofs.Laws.{above, and-left, and-right}
 
@@ -100,11 +102,11 @@ module _ (r : Rec) where
   unfolding nodeOf
   node-if k e f = f ∙ rw (k, e)
 
-  pub node-exists : {i o : Bool} {x : Node} → r .kind ≡ 10 → i ≡ within 1 4 (r .a) → o ≡ aOnly r → x ≡ when (i && o) (Exists (r .a)) → x ≡ nodeOf r
+  pub node-exists : {i o : Bool} {x : Node} → r .kind ≡ 10 → i ≡ within 1 4 (r .a) → o ≡ aOnly r → x ≡ when (i && o) (Exists (r .a) fold.Any) → x ≡ nodeOf r
   unfolding nodeOf
   node-exists k i e f = f ∙ rw (k, i, e)
 
-  pub node-single : {i o : Bool} {x : Node} → r .kind ≡ 11 → i ≡ within 1 4 (r .a) → o ≡ aOnly r → x ≡ when (i && o) (Single (r .a)) → x ≡ nodeOf r
+  pub node-single : {i o : Bool} {x : Node} → r .kind ≡ 11 → i ≡ within 1 4 (r .a) → o ≡ aOnly r → x ≡ when (i && o) (Single (r .a) pick.Only) → x ≡ nodeOf r
   unfolding nodeOf
   node-single k i e f = f ∙ rw (k, i, e)
 
@@ -129,14 +131,27 @@ module _ (r : Rec) where
   unfolding nodeOf
   node-let k e f = f ∙ rw (k, e)
 
+  pub node-count : {i o : Bool} {x : Node} → r .kind ≡ 28 → i ≡ within 1 4 (r .a) → o ≡ counts r → x ≡ when (i && o) (Exists (r .a) (fold.Count (r .op / 16))) → x ≡ nodeOf r
+  unfolding nodeOf
+  node-count k i e f = f ∙ rw (k, i, e)
+
+  pub node-greatest : {i o : Bool} {x : Node} → r .kind ≡ 29 → i ≡ within 1 4 (r .a) → o ≡ aOnly r → x ≡ when (i && o) (Single (r .a) pick.Greatest) → x ≡ nodeOf r
+  unfolding nodeOf
+  node-greatest k i e f = f ∙ rw (k, i, e)
+
+  pub node-least : {i o : Bool} {x : Node} → r .kind ≡ 30 → i ≡ within 1 4 (r .a) → o ≡ aOnly r → x ≡ when (i && o) (Single (r .a) pick.Least) → x ≡ nodeOf r
+  unfolding nodeOf
+  node-least k i e f = f ∙ rw (k, i, e)
+
   pub node-low : r .kind < 1 → Bad ≡ nodeOf r
   unfolding nodeOf
   node-low h = let k : r .kind ≡ 0 = omega arith in rw k
 
   pub node-high : 7 ≤ r .kind → (r .kind ≡ 7 → ⊥) → (r .kind ≡ 8 → ⊥) → (r .kind ≡ 9 → ⊥) → (r .kind ≡ 10 → ⊥) → (r .kind ≡ 11 → ⊥)
-      → (r .kind ≡ 12 → ⊥) → (r .kind ≡ 13 → ⊥) → (r .kind ≡ 14 → ⊥) → (r .kind ≡ 15 → ⊥) → (r .kind ≡ 16 → ⊥) → Bad ≡ nodeOf r
+      → (r .kind ≡ 12 → ⊥) → (r .kind ≡ 13 → ⊥) → (r .kind ≡ 14 → ⊥) → (r .kind ≡ 15 → ⊥) → (r .kind ≡ 16 → ⊥)
+      → (r .kind ≡ 28 → ⊥) → (r .kind ≡ 29 → ⊥) → (r .kind ≡ 30 → ⊥) → Bad ≡ nodeOf r
   unfolding nodeOf
-  node-high h a b c d e f g i j k =
+  node-high h a b c d e f g i j k l m n =
       rw (
         lt-leb (r .kind) 6 h,
         and-false,
@@ -150,10 +165,13 @@ module _ (r : Rec) where
         ne-eqb (r .kind) 14 i,
         ne-eqb (r .kind) 15 j,
         ne-eqb (r .kind) 16 k,
+        ne-eqb (r .kind) 28 l,
+        ne-eqb (r .kind) 29 m,
+        ne-eqb (r .kind) 30 n,
       )
 
 pub node-here : (v : List ℕ) (i : ℕ) {r : Rec} {x : Node} → r ≡ recAt v i → x ≡ nodeOf r → x ≡ nodeAt v i
 unfolding nodeAt
 node-here v i e f = rw (← e) f
 
-pub ruleset nodes = (const-null, const-truth, const-fixed, const-time, const-interval, const-class, node-const, node-binop, node-not, node-if, node-exists, node-single, node-table, node-select, node-col, node-classof, node-let, node-low, node-high, node-here, needs)
+pub ruleset nodes = (const-null, const-truth, const-fixed, const-time, const-interval, const-class, node-const, node-binop, node-not, node-if, node-exists, node-single, node-table, node-select, node-col, node-classof, node-let, node-count, node-greatest, node-least, node-low, node-high, node-here, needs)

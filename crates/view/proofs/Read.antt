@@ -14,6 +14,8 @@ use Rattle.view.specs.Ast as ast
 use Rattle.view.specs.Record.{nodeAt, slotOf}
 use Rattle.view.specs.Parse.{enter, many, nameOf, namesAt, parseTable, parseBlock, parseNode, parseValue}
 use Rattle.view.specs.declared.Node.{Node}
+use Rattle.view.specs.declared.Fold.{Fold}
+use Rattle.view.specs.declared.Pick.{Pick}
 use Rattle.view.specs.declared.Node.the-variants.{Const, Binop, Not, If, Exists, Single, Table, Select, Col, Classof, Let, Bad}
 use Rattle.view.proofs.Laws.{refused-ok, then-ok, then-elim, refused-cond, enter-ok}
 use Rattle.view.proofs.Says.{table-name}
@@ -180,8 +182,8 @@ slot-table (Const t x) e = absurd (omega arith)
 slot-table (Binop op) e = absurd (omega arith)
 slot-table Not e = absurd (omega arith)
 slot-table If e = absurd (omega arith)
-slot-table (Exists a) e = absurd (omega arith)
-slot-table (Single a) e = absurd (omega arith)
+slot-table (Exists a f) e = absurd (omega arith)
+slot-table (Single a g) e = absurd (omega arith)
 slot-table (Table name) e = refl
 slot-table (Select a b) e = absurd (omega arith)
 slot-table (Col name q) e = absurd (omega arith)
@@ -293,17 +295,17 @@ module _ (v : List ℕ) (n d : ℕ) (p : ℕ → Parsed Exp) (nt nv at : ℕ) (w
 
 -- EXISTS and VALUE, by their block
 module _ (v : List ℕ) (n d : ℕ) (p : ℕ → Parsed Exp) (a at : ℕ) (P : Parsed Exp) where
-  exists-parts : (b : Block) (k : ℕ) → InBlock v n p a 0 (at + 1) b k → P ≡ ok (ast.Exp.exists at (b .tables) (b .test)) k
-      → One p (at + 1 + a) P (ast.Exp.exists at (namesAt v (at + 1) a))
-  exists-parts b k h e =
+  exists-parts : {q : Fold} (b : Block) (k : ℕ) → InBlock v n p a 0 (at + 1) b k → P ≡ ok (ast.Exp.exists at q (b .tables) (b .test)) k
+      → One p (at + 1 + a) P (ast.Exp.exists at q (namesAt v (at + 1) a))
+  exists-parts {q} b k h e =
       let g : ok [] (h .mid) ≡ ok (b .values) k = sym (none-ok p (h .mid)) ∙ h .rest in
       let m : h .mid ≡ k = cc in
-      record { x = b .test; end = k; first = h .first ∙ ap (ok (b .test)) m; whole = e ∙ ap (λ (ts : List TabName). ok (ast.Exp.exists at ts (b .test)) k) (h .names) }
+      record { x = b .test; end = k; first = h .first ∙ ap (ok (b .test)) m; whole = e ∙ ap (λ (ts : List TabName). ok (ast.Exp.exists at q ts (b .test)) k) (h .names) }
 
-  single-parts : (b : Block) (k : ℕ) → InBlock v n p a 1 (at + 1) b k → P ≡ ok (ast.Exp.single at (b .tables) (b .test) (firstOf (b .values))) k
-      → Two p (at + 1 + a) P (ast.Exp.single at (namesAt v (at + 1) a))
+  single-parts : {q : Pick} (b : Block) (k : ℕ) → InBlock v n p a 1 (at + 1) b k → P ≡ ok (ast.Exp.single at q (b .tables) (b .test) (firstOf (b .values))) k
+      → Two p (at + 1 + a) P (ast.Exp.single at q (namesAt v (at + 1) a))
   unfolding firstOf
-  single-parts b k h e =
+  single-parts {q} b k h e =
       let o = more-ok p 1 (h .mid) (omega arith) (was-read (h .rest)) in
       let f : ok (o .head ∷ o .tail) (o .end) ≡ ok (b .values) k = sym (o .whole) ∙ h .rest in
       let g : ok [] (o .mid) ≡ ok (o .tail) (o .end) = sym (none-ok p (o .mid)) ∙ o .rest in
@@ -316,16 +318,16 @@ module _ (v : List ℕ) (n d : ℕ) (p : ℕ → Parsed Exp) (a at : ℕ) (P : P
         end = k;
         first = h .first;
         second = o .first ∙ ap (ok (o .head)) m;
-        whole = e ∙ ap (λ (ts : List TabName). ok (ast.Exp.single at ts (b .test) (firstOf (b .values))) k) (h .names)
-            ∙ ap (λ (es : List Exp). ok (ast.Exp.single at (namesAt v (at + 1) a) (b .test) (firstOf es)) k) vs;
+        whole = e ∙ ap (λ (ts : List TabName). ok (ast.Exp.single at q ts (b .test) (firstOf (b .values))) k) (h .names)
+            ∙ ap (λ (es : List Exp). ok (ast.Exp.single at q (namesAt v (at + 1) a) (b .test) (firstOf es)) k) vs;
       }
 
-  exists-ok : P ≡ andThen (parseBlock v n d p a 0 (at + 1)) (λ b next. ok (ast.Exp.exists at (b .tables) (b .test)) next) → WasRead P
-      → One p (at + 1 + a) P (ast.Exp.exists at (namesAt v (at + 1) a))
+  exists-ok : {q : Fold} → P ≡ andThen (parseBlock v n d p a 0 (at + 1)) (λ b next. ok (ast.Exp.exists at q (b .tables) (b .test)) next) → WasRead P
+      → One p (at + 1 + a) P (ast.Exp.exists at q (namesAt v (at + 1) a))
   exists-ok e w = then-elim (parseBlock v n d p a 0 (at + 1)) _ (sym e ∙ w .is) (λ b k f g. exists-parts b k (block-ok v n d p a 0 (at + 1) f) (w .is ∙ sym g))
 
-  single-ok : P ≡ andThen (parseBlock v n d p a 1 (at + 1)) (λ b next. ok (ast.Exp.single at (b .tables) (b .test) (firstOf (b .values))) next) → WasRead P
-      → Two p (at + 1 + a) P (ast.Exp.single at (namesAt v (at + 1) a))
+  single-ok : {q : Pick} → P ≡ andThen (parseBlock v n d p a 1 (at + 1)) (λ b next. ok (ast.Exp.single at q (b .tables) (b .test) (firstOf (b .values))) next) → WasRead P
+      → Two p (at + 1 + a) P (ast.Exp.single at q (namesAt v (at + 1) a))
   single-ok e w = then-elim (parseBlock v n d p a 1 (at + 1)) _ (sym e ∙ w .is) (λ b k f g. single-parts b k (block-ok v n d p a 1 (at + 1) f) (w .is ∙ sym g))
 
   block-listed : (nv : ℕ) (f : Block → ℕ → Parsed Exp) → at < n → P ≡ andThen (parseBlock v n d p a nv (at + 1)) f → WasRead P → Listed v n (at + 1) a
@@ -369,19 +371,19 @@ module _ (v : List ℕ) (n d at : ℕ) (w : WasRead (parseValue v n d at)) {nd :
   if-read f = three-ok _ _ _ _ (value-is f) w
 
   -- EXISTS and VALUE: the TABLE records, then the where, then VALUE's value
-  pub exists-read : {a : ℕ} → nd ≡ Exists a → One (parseValue v n (d - 1)) (at + 1 + a) (parseValue v n d at) (ast.Exp.exists at (namesAt v (at + 1) a))
+  pub exists-read : {a : ℕ} {q : Fold} → nd ≡ Exists a q → One (parseValue v n (d - 1)) (at + 1 + a) (parseValue v n d at) (ast.Exp.exists at q (namesAt v (at + 1) a))
   unfolding parseNode
   exists-read f = exists-ok v n (d - 1) p _ at _ (value-is f) w
 
-  pub exists-listed : {a : ℕ} → nd ≡ Exists a → Listed v n (at + 1) a
+  pub exists-listed : {a : ℕ} {q : Fold} → nd ≡ Exists a q → Listed v n (at + 1) a
   unfolding parseNode
   exists-listed f = block-listed v n (d - 1) p _ at _ 0 _ (here-ok v n d at w .here) (value-is f) w
 
-  pub single-read : {a : ℕ} → nd ≡ Single a → Two (parseValue v n (d - 1)) (at + 1 + a) (parseValue v n d at) (ast.Exp.single at (namesAt v (at + 1) a))
+  pub single-read : {a : ℕ} {q : Pick} → nd ≡ Single a q → Two (parseValue v n (d - 1)) (at + 1 + a) (parseValue v n d at) (ast.Exp.single at q (namesAt v (at + 1) a))
   unfolding parseNode
   single-read f = single-ok v n (d - 1) p _ at _ (value-is f) w
 
-  pub single-listed : {a : ℕ} → nd ≡ Single a → Listed v n (at + 1) a
+  pub single-listed : {a : ℕ} {q : Pick} → nd ≡ Single a q → Listed v n (at + 1) a
   unfolding parseNode
   single-listed f = block-listed v n (d - 1) p _ at _ 1 _ (here-ok v n d at w .here) (value-is f) w
 

@@ -14,8 +14,12 @@ use Rattle.cell.specs.Types.{digitsRule}
 use Rattle.cell.specs.Values.{digits}
 use Rattle.cell.specs.declared.Type.the-variants as T
 use Rattle.cell.specs.declared.Value.the-variants as X
-use Rattle.view.specs.Record.{when, bare, opOnly, aOnly, valueIn, constOf, nodeOf, nodeAt}
+use Rattle.view.specs.Record.{when, bare, opOnly, aOnly, counts, valueIn, constOf, nodeOf, nodeAt}
 use Rattle.view.specs.declared.Node.{Node}
+use Rattle.view.specs.declared.Fold.{Fold}
+use Rattle.view.specs.declared.Fold.the-variants as fold
+use Rattle.view.specs.declared.Pick.{Pick}
+use Rattle.view.specs.declared.Pick.the-variants as pick
 use Rattle.view.specs.declared.Node.the-variants.{Const, Binop, Not, If, Exists, Single, Table, Select, Col, Classof, Let, Bad}
 use Rattle.view.proofs.Laws.{above, and-left, and-right}
 
@@ -31,13 +35,16 @@ pub data Says (r : Rec) : Node → Type 0 where
   says-binop : r .kind ≡ 7 → (within 1 12 (r .op) && opOnly r) ≡ true → Says r (Binop (r .op))
   says-not : r .kind ≡ 8 → bare r ≡ true → Says r Not
   says-if : r .kind ≡ 9 → bare r ≡ true → Says r If
-  says-exists : r .kind ≡ 10 → (within 1 4 (r .a) && aOnly r) ≡ true → Says r (Exists (r .a))
-  says-single : r .kind ≡ 11 → (within 1 4 (r .a) && aOnly r) ≡ true → Says r (Single (r .a))
+  says-exists : r .kind ≡ 10 → (within 1 4 (r .a) && aOnly r) ≡ true → Says r (Exists (r .a) fold.Any)
+  says-single : r .kind ≡ 11 → (within 1 4 (r .a) && aOnly r) ≡ true → Says r (Single (r .a) pick.Only)
   says-table : r .kind ≡ 12 → (leb 1 (r .a) && aOnly r) ≡ true → Says r (Table (r .a))
   says-select : r .kind ≡ 13 → ((within 1 4 (r .a) && within 1 32 (r .b)) && (eqb (r .op) 0 && eqb (r .c) 0)) ≡ true → Says r (Select (r .a) (r .b))
   says-col : r .kind ≡ 14 → (leb 1 (r .a) && (eqb (r .op) 0 && eqb (r .c) 0)) ≡ true → Says r (Col (r .a) (r .b))
   says-classof : r .kind ≡ 15 → (leb 1 (r .a) && (eqb (r .op) 0 && eqb (r .c) 0)) ≡ true → Says r (Classof (r .a) (r .b))
   says-let : r .kind ≡ 16 → (leb 1 (r .a) && aOnly r) ≡ true → Says r (Let (r .a))
+  says-count : r .kind ≡ 28 → (within 1 4 (r .a) && counts r) ≡ true → Says r (Exists (r .a) (fold.Count (r .op / 16)))
+  says-greatest : r .kind ≡ 29 → (within 1 4 (r .a) && aOnly r) ≡ true → Says r (Single (r .a) pick.Greatest)
+  says-least : r .kind ≡ 30 → (within 1 4 (r .a) && aOnly r) ≡ true → Says r (Single (r .a) pick.Least)
   says-bad : Says r Bad
 
 six : (k : ℕ) → within 1 6 k ≡ true → (k ≡ 1 → ⊥) → (k ≡ 2 → ⊥) → (k ≡ 3 → ⊥) → (k ≡ 4 → ⊥) → (k ≡ 5 → ⊥) → k ≡ 6
@@ -86,7 +93,10 @@ module _ (r : Rec) where
       is 14 (λ k. kept _ (says-col k)) (λ z.
       is 15 (λ k. kept _ (says-classof k)) (λ z.
       is 16 (λ k. kept _ (says-let k)) (λ z.
-      says-bad)))))))))))
+      is 28 (λ k. kept _ (says-count k)) (λ z.
+      is 29 (λ k. kept _ (says-greatest k)) (λ z.
+      is 30 (λ k. kept _ (says-least k)) (λ z.
+      says-bad))))))))))))))
 
   pub says-node : {x : Node} → nodeOf r ≡ x → Says r x
   says-node e = rw e at says
@@ -103,11 +113,18 @@ some x b e = leb-true 1 x (and-left (leb 1 x) b e)
 binop-says : (r : Rec) {op : ℕ} → Says r (Binop op) → (1 ≤ op) × (op ≤ 12)
 binop-says r (says-binop k e) = inside 1 12 (r .op) (opOnly r) e
 
-exists-says : (r : Rec) {a : ℕ} → Says r (Exists a) → (1 ≤ a) × (a ≤ 4)
+exists-says : (r : Rec) {a : ℕ} {q : Fold} → Says r (Exists a q) → (1 ≤ a) × (a ≤ 4)
 exists-says r (says-exists k e) = inside 1 4 (r .a) (aOnly r) e
+exists-says r (says-count k e) = inside 1 4 (r .a) (counts r) e
 
-single-says : (r : Rec) {a : ℕ} → Says r (Single a) → (1 ≤ a) × (a ≤ 4)
+digits-says : (r : Rec) {a p : ℕ} → Says r (Exists a (fold.Count p)) → (1 ≤ p) × (p ≤ 9)
+digits-says r (says-count k e) =
+    inside 1 9 (r .op / 16) (eqb (r .op % 16) 0 && (eqb (r .b) 0 && eqb (r .c) 0)) (and-right (within 1 4 (r .a)) (counts r) e)
+
+single-says : (r : Rec) {a : ℕ} {q : Pick} → Says r (Single a q) → (1 ≤ a) × (a ≤ 4)
 single-says r (says-single k e) = inside 1 4 (r .a) (aOnly r) e
+single-says r (says-greatest k e) = inside 1 4 (r .a) (aOnly r) e
+single-says r (says-least k e) = inside 1 4 (r .a) (aOnly r) e
 
 table-says : (r : Rec) {name : ℕ} → Says r (Table name) → (1 ≤ name) × (name ≡ r .a)
 table-says r (says-table k e) = (some (r .a) (aOnly r) e, refl)
@@ -137,10 +154,13 @@ module _ (v : List ℕ) (i : ℕ) {nd : Node} (e : nd ≡ nodeAt v i) where
   pub binop-op : {op : ℕ} → nd ≡ Binop op → (1 ≤ op) × (op ≤ 12)
   binop-op f = binop-says (recAt v i) (said f)
 
-  pub exists-few : {a : ℕ} → nd ≡ Exists a → (1 ≤ a) × (a ≤ 4)
+  pub exists-few : {a : ℕ} {q : Fold} → nd ≡ Exists a q → (1 ≤ a) × (a ≤ 4)
   exists-few f = exists-says (recAt v i) (said f)
 
-  pub single-few : {a : ℕ} → nd ≡ Single a → (1 ≤ a) × (a ≤ 4)
+  pub exists-digits : {a p : ℕ} → nd ≡ Exists a (fold.Count p) → (1 ≤ p) × (p ≤ 9)
+  exists-digits f = digits-says (recAt v i) (said f)
+
+  pub single-few : {a : ℕ} {q : Pick} → nd ≡ Single a q → (1 ≤ a) × (a ≤ 4)
   single-few f = single-says (recAt v i) (said f)
 
   pub table-name : {name : ℕ} → nd ≡ Table name → (1 ≤ name) × (name ≡ aAt v i)

@@ -19,6 +19,8 @@ use Rattle.view.specs.Ast as ast
 use Rattle.view.specs.Record.{nodeAt, slotOf}
 use Rattle.view.specs.Parse.{enterNode, enter, many, parseTable, parseBlock, parseNode, parseValue, parseRoot, parseView, metOf, walkOf, verdictOf, checkOf}
 use Rattle.view.specs.declared.Node.{Node}
+use Rattle.view.specs.declared.Fold.{Fold}
+use Rattle.view.specs.declared.Pick.{Pick}
 use Rattle.view.specs.declared.Node.the-variants.{Const, Binop, Not, If, Exists, Single, Table, Select, Col, Classof, Let, Bad}
 use Rattle.view.specs.declared.Met.{Met}
 use Rattle.view.specs.declared.Met.the-variants as M
@@ -126,11 +128,11 @@ module _ (v : List ℕ) (n d at : ℕ) {r : Met} (e : r ≡ metOf (enter v n 1 a
       unfolding parseNode
       value-let {name} g h = (rw j at h) ∙ sym (ap walkOf (found g) ∙ two-walk (parseValue v n (d - 1)) (at + 1) (ast.Exp.letin at name))
 
-      pub value-exists : {a : ℕ} {w : Walk} → nd ≡ Exists a → w ≡ walkOf (parseBlock v n (d - 1) (parseValue v n (d - 1)) a 0 m) → w ≡ walkOf (parseValue v n d at)
+      pub value-exists : {a : ℕ} {w : Walk} {q : Fold} → nd ≡ Exists a q → w ≡ walkOf (parseBlock v n (d - 1) (parseValue v n (d - 1)) a 0 m) → w ≡ walkOf (parseValue v n d at)
       unfolding parseNode
       value-exists {a} g h = (rw j at h) ∙ sym (ap walkOf (found g) ∙ walk-map (parseBlock v n (d - 1) (parseValue v n (d - 1)) a 0 (at + 1)) _)
 
-      pub value-single : {a : ℕ} {w : Walk} → nd ≡ Single a → w ≡ walkOf (parseBlock v n (d - 1) (parseValue v n (d - 1)) a 1 m) → w ≡ walkOf (parseValue v n d at)
+      pub value-single : {a : ℕ} {w : Walk} {q : Pick} → nd ≡ Single a q → w ≡ walkOf (parseBlock v n (d - 1) (parseValue v n (d - 1)) a 1 m) → w ≡ walkOf (parseValue v n d at)
       unfolding parseNode
       value-single {a} g h = (rw j at h) ∙ sym (ap walkOf (found g) ∙ walk-map (parseBlock v n (d - 1) (parseValue v n (d - 1)) a 1 (at + 1)) _)
 
@@ -195,11 +197,11 @@ module _ (v : List ℕ) (n : ℕ) {r : Met} (e : r ≡ metOf (enter v n 3 0)) wh
     unfolding slotOf
     root-if g = other g (omega arith)
 
-    pub root-exists : {a : ℕ} → nd ≡ Exists a → W.Refused 4 0 ≡ walkOf (parseRoot v n)
+    pub root-exists : {a : ℕ} {q : Fold} → nd ≡ Exists a q → W.Refused 4 0 ≡ walkOf (parseRoot v n)
     unfolding slotOf
     root-exists g = other g (omega arith)
 
-    pub root-single : {a : ℕ} → nd ≡ Single a → W.Refused 4 0 ≡ walkOf (parseRoot v n)
+    pub root-single : {a : ℕ} {q : Pick} → nd ≡ Single a q → W.Refused 4 0 ≡ walkOf (parseRoot v n)
     unfolding slotOf
     root-single g = other g (omega arith)
 

@@ -7,25 +7,27 @@ use Rattle.cell.specs.declared.Type.{«Type» as Ty}
 use Rattle.cell.specs.declared.Type.the-variants as T
 use Rattle.cell.specs.declared.Value.{Value}
 use Rattle.cell.specs.declared.Value.the-variants as X
+use Rattle.view.specs.declared.Fold.{Fold}
+use Rattle.view.specs.declared.Pick.{Pick}
 
 -- a TABLE record: its number, and the name
 pub record TabName : Type 0 where
   pub at : ℕ
   pub name : ℕ
 
--- a value
+-- a value; EXISTS and COUNT are of one shape, and so are VALUE, MAX and MIN
 pub data Exp : Type 0 where
   const : ℕ → Ty → Value → Exp
   binop : ℕ → ℕ → Exp → Exp → Exp
   neg : ℕ → Exp → Exp
   if : ℕ → Exp → Exp → Exp → Exp
-  exists : ℕ → List TabName → Exp → Exp
-  single : ℕ → List TabName → Exp → Exp → Exp
+  exists : ℕ → Fold → List TabName → Exp → Exp
+  single : ℕ → Pick → List TabName → Exp → Exp → Exp
   col : ℕ → ℕ → ℕ → Exp
   classof : ℕ → ℕ → ℕ → Exp
   letin : ℕ → ℕ → Exp → Exp → Exp
 
--- what a block holds: its tables, its where, and its values (none for EXISTS, one for VALUE)
+-- what a block holds: its tables, its where, and its values (none for EXISTS and COUNT, one for VALUE, MAX and MIN)
 pub record Block : Type 0 where
   pub tables : List TabName
   pub test : Exp

@@ -40,8 +40,8 @@ nameOf (Const t v) = 0
 nameOf (Binop op) = 0
 nameOf Not = 0
 nameOf If = 0
-nameOf (Exists a) = 0
-nameOf (Single a) = 0
+nameOf (Exists a f) = 0
+nameOf (Single a g) = 0
 nameOf (Table name) = name
 nameOf (Select a b) = 0
 nameOf (Col name q) = 0
@@ -76,10 +76,10 @@ parseNode v n depth value at (Binop op) =
 parseNode v n depth value at Not = andThen (value (at + 1)) (λ e a. ok (ast.Exp.neg at e) a)
 parseNode v n depth value at If =
     andThen (value (at + 1)) (λ c a. andThen (value a) (λ l b. andThen (value b) (λ r d. ok (ast.Exp.if at c l r) d)))
-parseNode v n depth value at (Exists tables) =
-    andThen (parseBlock v n depth value tables 0 (at + 1)) (λ b next. ok (ast.Exp.exists at (b .tables) (b .test)) next)
-parseNode v n depth value at (Single tables) =
-    andThen (parseBlock v n depth value tables 1 (at + 1)) (λ b next. ok (ast.Exp.single at (b .tables) (b .test) (firstOf (b .values))) next)
+parseNode v n depth value at (Exists tables f) =
+    andThen (parseBlock v n depth value tables 0 (at + 1)) (λ b next. ok (ast.Exp.exists at f (b .tables) (b .test)) next)
+parseNode v n depth value at (Single tables g) =
+    andThen (parseBlock v n depth value tables 1 (at + 1)) (λ b next. ok (ast.Exp.single at g (b .tables) (b .test) (firstOf (b .values))) next)
 parseNode v n depth value at (Table name) = refused 4 at
 parseNode v n depth value at (Select tables values) = refused 4 at
 parseNode v n depth value at (Col name q) = ok (ast.Exp.col at name q) (at + 1)
@@ -99,8 +99,8 @@ rootNode v n (Const t x) = refused 4 0
 rootNode v n (Binop op) = refused 4 0
 rootNode v n Not = refused 4 0
 rootNode v n If = refused 4 0
-rootNode v n (Exists tables) = refused 4 0
-rootNode v n (Single tables) = refused 4 0
+rootNode v n (Exists tables f) = refused 4 0
+rootNode v n (Single tables g) = refused 4 0
 rootNode v n (Table name) = refused 4 0
 rootNode v n (Select tables values) = parseBlock v n 15 (parseValue v n 15) tables values 1
 rootNode v n (Col name q) = refused 4 0

@@ -14,6 +14,8 @@ use Rattle.cell.specs.declared.Type.{«Type» as Ty}
 use Rattle.cell.specs.declared.Type.the-variants as T
 use Rattle.cell.specs.declared.Value.{Value}
 use Rattle.cell.specs.declared.Value.the-variants as X
+use Rattle.view.specs.declared.Fold.the-variants as fold
+use Rattle.view.specs.declared.Pick.the-variants as pick
 use Rattle.view.specs.declared.Node.{Node}
 use Rattle.view.specs.declared.Node.the-variants.{Const, Binop, Not, If, Exists, Single, Table, Select, Col, Classof, Let, Bad}
 
@@ -32,6 +34,10 @@ opOnly r = eqb (r .a) 0 && (eqb (r .b) 0 && eqb (r .c) 0)
 abbrev pub aOnly : Rec → Bool
 aOnly r = eqb (r .op) 0 && (eqb (r .b) 0 && eqb (r .c) 0)
 
+-- COUNT's op: 16p+0, p is 1 to 9
+abbrev pub counts : Rec → Bool
+counts r = (leb 1 (r .op / 16) && leb (r .op / 16) 9) && (eqb (r .op % 16) 0 && (eqb (r .b) 0 && eqb (r .c) 0))
+
 -- a signed value: low half b, high half c
 abbrev pub valueIn : Rec → ℤ
 valueIn r = signed32 (r .b + 65536 * r .c)
@@ -49,21 +55,24 @@ constOf r =
     (when (aOnly r) (Const T.Class (X.Class (r .a))))))))
 
 -- THE NODE of a record: 7 BINOP op, 8 NOT, 9 IF, 10 EXISTS a tables, 11 VALUE a tables, 12 TABLE a name, 13 SELECT a tables b values,
--- 14 COL a column b table or 0, 15 CLASSOF the same, 16 LET a name
+-- 14 COL a column b table or 0, 15 CLASSOF the same, 16 LET a name; 28 COUNT a tables op 16p, 29 MAX a tables, 30 MIN a tables
 unfoldable pub nodeOf : Rec → Node
 nodeOf r =
     cond (within 1 6 (r .kind)) (constOf r)
     (cond (eqb (r .kind) 7) (when (within 1 12 (r .op) && opOnly r) (Binop (r .op)))
     (cond (eqb (r .kind) 8) (when (bare r) Not)
     (cond (eqb (r .kind) 9) (when (bare r) If)
-    (cond (eqb (r .kind) 10) (when (within 1 4 (r .a) && aOnly r) (Exists (r .a)))
-    (cond (eqb (r .kind) 11) (when (within 1 4 (r .a) && aOnly r) (Single (r .a)))
+    (cond (eqb (r .kind) 10) (when (within 1 4 (r .a) && aOnly r) (Exists (r .a) fold.Any))
+    (cond (eqb (r .kind) 11) (when (within 1 4 (r .a) && aOnly r) (Single (r .a) pick.Only))
     (cond (eqb (r .kind) 12) (when (leb 1 (r .a) && aOnly r) (Table (r .a)))
     (cond (eqb (r .kind) 13) (when ((within 1 4 (r .a) && within 1 32 (r .b)) && (eqb (r .op) 0 && eqb (r .c) 0)) (Select (r .a) (r .b)))
     (cond (eqb (r .kind) 14) (when (leb 1 (r .a) && (eqb (r .op) 0 && eqb (r .c) 0)) (Col (r .a) (r .b)))
     (cond (eqb (r .kind) 15) (when (leb 1 (r .a) && (eqb (r .op) 0 && eqb (r .c) 0)) (Classof (r .a) (r .b)))
     (cond (eqb (r .kind) 16) (when (leb 1 (r .a) && aOnly r) (Let (r .a)))
-    Bad))))))))))
+    (cond (eqb (r .kind) 28) (when (within 1 4 (r .a) && counts r) (Exists (r .a) (fold.Count (r .op / 16))))
+    (cond (eqb (r .kind) 29) (when (within 1 4 (r .a) && aOnly r) (Single (r .a) pick.Greatest))
+    (cond (eqb (r .kind) 30) (when (within 1 4 (r .a) && aOnly r) (Single (r .a) pick.Least))
+    Bad)))))))))))))
 
 -- the node of record i of a view
 unfoldable pub nodeAt : List ℕ → ℕ → Node
@@ -75,8 +84,8 @@ slotOf (Const t v) = 1
 slotOf (Binop op) = 1
 slotOf Not = 1
 slotOf If = 1
-slotOf (Exists a) = 1
-slotOf (Single a) = 1
+slotOf (Exists a f) = 1
+slotOf (Single a g) = 1
 slotOf (Table name) = 2
 slotOf (Select a b) = 3
 slotOf (Col name q) = 1

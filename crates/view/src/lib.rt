@@ -10,8 +10,21 @@ ghost use lib.IntN.{natAbs};
 ghost use Rattle.word.specs.Bytes.{signed32, within};
 ghost use Rattle.cell.specs.Types.{digitsRule};
 ghost use Rattle.cell.specs.Values.{digits};
-ghost use Rattle.view.specs.Record.{when, bare, opOnly, aOnly, constOf, nodeOf, nodeAt, slotOf};
+ghost use Rattle.view.specs.Record.{when, bare, opOnly, aOnly, counts, constOf, nodeOf, nodeAt, slotOf};
 ghost use Rattle.view.specs.Parse.{enter, many, parseTable, parseBlock, parseValue, parseRoot, metOf, walkOf, checkOf};
+
+// What a block without a value says of its kept rows: whether there is one (EXISTS), or how many, in so many digits (COUNT).
+pub enum Fold {
+    Any,
+    Count(u8),
+}
+
+// Which of the kept rows' values a block gives: the only one (VALUE), the greatest (MAX), the least (MIN).
+pub enum Pick {
+    Only,
+    Greatest,
+    Least,
+}
 
 // What a record says: its kind with the fields that the kind has. Bad: an unknown kind or op, or a field out of rule.
 pub enum Node {
@@ -19,8 +32,8 @@ pub enum Node {
     Binop(u8),
     Not,
     If,
-    Exists(u16),
-    Single(u16),
+    Exists(u16, Fold),
+    Single(u16, Pick),
     Table(u16),
     Select(u16, u16),
     Col(u16, u16),
@@ -172,6 +185,14 @@ fn inside(lo: u16, hi: u16, x: u16) -> bool
     (lo <= x) & (x <= hi)
 }
 
+// COUNT's op: 1 to 9 digits at scale 0; no other field but a is named.
+fn counts(r: word::Rec) -> bool
+    ensures { λ o. ⌜ o ≡ counts r ⌝ }
+{
+    let op = r.op;
+    ((1 <= op / 16) & (op / 16 <= 9)) & ((op % 16 == 0) & ((r.b == 0) & (r.c == 0)))
+}
+
 // The node of a record.
 fn node_of(r: word::Rec) -> Node
     ensures { λ o. ⌜ o ≡ nodeOf r ⌝ }
@@ -186,8 +207,8 @@ fn node_of(r: word::Rec) -> Node
         7 => when(((1 <= op) & (op <= 12)) & op_only(r), Node::Binop(op)),
         8 => when(bare(r), Node::Not),
         9 => when(bare(r), Node::If),
-        10 => when(inside(1, 4, a) & a_only(r), Node::Exists(a)),
-        11 => when(inside(1, 4, a) & a_only(r), Node::Single(a)),
+        10 => when(inside(1, 4, a) & a_only(r), Node::Exists(a, Fold::Any)),
+        11 => when(inside(1, 4, a) & a_only(r), Node::Single(a, Pick::Only)),
         12 => when((1 <= a) & a_only(r), Node::Table(a)),
         13 => when(
             (inside(1, 4, a) & inside(1, 32, b)) & plain,
@@ -196,6 +217,12 @@ fn node_of(r: word::Rec) -> Node
         14 => when((1 <= a) & plain, Node::Col(a, b)),
         15 => when((1 <= a) & plain, Node::Classof(a, b)),
         16 => when((1 <= a) & a_only(r), Node::Let(a)),
+        28 => when(
+            inside(1, 4, a) & counts(r),
+            Node::Exists(a, Fold::Count(op / 16)),
+        ),
+        29 => when(inside(1, 4, a) & a_only(r), Node::Single(a, Pick::Greatest)),
+        30 => when(inside(1, 4, a) & a_only(r), Node::Single(a, Pick::Least)),
         _ => Node::Bad,
     }
 }
@@ -225,8 +252,8 @@ fn slot_of(node: Node) -> u8
         Node::Binop(_) => 1,
         Node::Not => 1,
         Node::If => 1,
-        Node::Exists(_) => 1,
-        Node::Single(_) => 1,
+        Node::Exists(_, _) => 1,
+        Node::Single(_, _) => 1,
         Node::Table(_) => 2,
         Node::Select(_, _) => 3,
         Node::Col(_, _) => 1,
@@ -312,8 +339,8 @@ fn value(view: &[u8], n: usize, at: usize, depth: usize) -> Walk
                 Node::Binop(_) => values(view, n, next, 2, down),
                 Node::Not => values(view, n, next, 1, down),
                 Node::If => values(view, n, next, 3, down),
-                Node::Exists(tables) => block(view, n, next, tables, 0, down),
-                Node::Single(tables) => block(view, n, next, tables, 1, down),
+                Node::Exists(tables, _) => block(view, n, next, tables, 0, down),
+                Node::Single(tables, _) => block(view, n, next, tables, 1, down),
                 Node::Table(_) => Walk::Refused(4, at),
                 Node::Select(_, _) => Walk::Refused(4, at),
                 Node::Col(_, _) => Walk::Next(next),
@@ -385,8 +412,8 @@ fn root(view: &[u8], n: usize) -> Walk
             Node::Binop(_) => Walk::Refused(4, 0),
             Node::Not => Walk::Refused(4, 0),
             Node::If => Walk::Refused(4, 0),
-            Node::Exists(_) => Walk::Refused(4, 0),
-            Node::Single(_) => Walk::Refused(4, 0),
+            Node::Exists(_, _) => Walk::Refused(4, 0),
+            Node::Single(_, _) => Walk::Refused(4, 0),
             Node::Table(_) => Walk::Refused(4, 0),
             Node::Col(_, _) => Walk::Refused(4, 0),
             Node::Classof(_, _) => Walk::Refused(4, 0),

@@ -1,7 +1,7 @@
 -- `filter::tree_of` meets its contract.
 -- Assumes nothing.
 use borrow.Author.Needs.{needs}
-use Rattle.filter.proofs.Ways.{cat-header, cat-long, cat-few, cat-view, cat-viewed, tree-view, tree-names, tree-fine}
+use Rattle.filter.proofs.Ways.{cat-header, cat-long, cat-few, cat-view, cat-viewed, sums-are, tree-view, tree-names, tree-fine}
 use Rattle.filter.proofs.tree_of.Statement.{statement}
 use Rattle.filter.proofs.tree_of.Tie as tie
 
@@ -29,10 +29,10 @@ tree-of-spec =
     (λ c. search needs)
     -- refusal-requires-2
     (λ c κs. search needs)
-    -- enum-told
+    -- enum-known-sums
     (λ c. search needs)
     -- written-requires
-    (λ c κs. search (cat-viewed, needs))
+    (λ c κs. (search (cat-viewed, needs), search (sums-are, needs)))
     -- returns
     (λ c. search (tree-view, needs))
     -- returns-2

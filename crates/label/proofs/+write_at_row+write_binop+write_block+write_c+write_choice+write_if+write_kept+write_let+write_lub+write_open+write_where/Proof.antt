@@ -47,6 +47,7 @@ use Rattle.label.proofs.write_where.Kinds as write-where-kinds
 use Rattle.label.proofs.+write_at_row+write_binop+write_block+write_c+write_choice+write_if+write_kept+write_let+write_lub+write_open+write_where.Lts-write_where as write-where-lts
 use Rattle.class.proofs.chosen.Reads as chosen-reads
 use Rattle.class.proofs.joined.Reads as joined-reads
+use Rattle.label.proofs.has_value.Reads as has-value-reads
 use Rattle.label.proofs.known.Reads as known-reads
 use Rattle.label.proofs.last_of.Reads as last-of-reads
 use Rattle.label.proofs.rows.info.Reads as info-reads
@@ -317,6 +318,8 @@ pub +write-at-row+write-binop+write-block+write-c+write-choice+write-if+write-ke
       pushed-reads.Learnt,
       block-class-reads.Asked,
       block-class-reads.Learnt,
+      has-value-reads.Asked,
+      has-value-reads.Learnt,
       put-rec-reads.Asked,
       put-rec-reads.Learnt,
       table-recs-reads.Asked,
@@ -338,22 +341,24 @@ pub +write-at-row+write-binop+write-block+write-c+write-choice+write-if+write-ke
     (λ c κs. search needs)
     -- write-block-block-class-requires
     (λ c κs. (search needs, opened-there (c .before .before .before .before .before .before .pre .1 .0) _ _ (c .before .before .before .before .before .before .pre .1 .1 .0) (c .before .before .open-block .ensures) (c .pushed .ensures) .entry .among))
+    -- write-block-has-value-requires
+    (λ c κs. search needs)
     -- write-block-add-test
-    (λ c. (let h = block-next _ _ _ _ _ _ _ _ (c .before .before .before .before .before .before .before .pre .1 .0 .ready) _ _ (c .before .before .before .before .before .before .before .pre .1 .1 .0) in omega arith))
+    (λ c. (let h = block-next _ _ _ _ _ _ _ _ (c .before .before .before .before .before .before .before .before .pre .1 .0 .ready) _ _ (c .before .before .before .before .before .before .before .before .pre .1 .1 .0) in omega arith))
     -- write-block-put-rec-requires
-    (λ c κs. room-some _ (c .before .before .before .before .before .before .before .before .pre .1 .1 .1))
+    (λ c κs. room-some _ (c .before .before .before .before .before .before .before .before .before .pre .1 .1 .1))
     -- write-block-put-rec-requires-2
-    (λ c κs. room-rec _ _ _ _ _ (front _ (after (c .before .before .before .put-rec .ensures) (room-as (aggregate-bytes (c .before .before .before .before .before .before .before .before .before .before .before .before .pre .1 .0) _ _ (c .before .before .before .before .before .before .before .before .before .before .before .before .pre .1 .1 .0) (c .before .before .before .before .before .before .before .before .open-block .ensures) (c .before .before .before .before .before .before .pushed .ensures) (c .before .before .before .before .before .block-class .ensures)) (c .before .before .before .before .before .before .before .before .before .before .before .before .pre .1 .1 .1)))))
+    (λ c κs. room-rec _ _ _ _ _ (front _ (after (c .before .before .before .put-rec .ensures) (room-as (aggregate-bytes (c .before .before .before .before .before .before .before .before .before .before .before .before .before .pre .1 .0) _ _ (c .before .before .before .before .before .before .before .before .before .before .before .before .before .pre .1 .1 .0) (c .before .before .before .before .before .before .before .before .before .open-block .ensures) (c .before .before .before .before .before .before .before .pushed .ensures) (c .before .before .before .before .before .has-value .ensures) (c .before .before .before .before .before .before .block-class .ensures)) (c .before .before .before .before .before .before .before .before .before .before .before .before .before .pre .1 .1 .1)))))
     -- write-block-table-recs-requires
-    (λ c κs. (opened-there (c .before .before .before .before .before .before .before .before .before .before .before .before .before .before .before .before .pre .1 .0) _ _ (c .before .before .before .before .before .before .before .before .before .before .before .before .before .before .before .before .pre .1 .1 .0) (c .before .before .before .before .before .before .before .before .before .before .before .before .open-block .ensures) (c .before .before .before .before .before .before .before .before .before .before .pushed .ensures) .tabled, front _ (after (c .before .before .before .put-rec2 .ensures) (after (c .before .before .before .before .before .before .before .put-rec .ensures) (room-as (aggregate-bytes (c .before .before .before .before .before .before .before .before .before .before .before .before .before .before .before .before .pre .1 .0) _ _ (c .before .before .before .before .before .before .before .before .before .before .before .before .before .before .before .before .pre .1 .1 .0) (c .before .before .before .before .before .before .before .before .before .before .before .before .open-block .ensures) (c .before .before .before .before .before .before .before .before .before .before .pushed .ensures) (c .before .before .before .before .before .before .before .before .before .block-class .ensures)) (c .before .before .before .before .before .before .before .before .before .before .before .before .before .before .before .before .pre .1 .1 .1))))))
+    (λ c κs. (opened-there (c .before .before .before .before .before .before .before .before .before .before .before .before .before .before .before .before .before .pre .1 .0) _ _ (c .before .before .before .before .before .before .before .before .before .before .before .before .before .before .before .before .before .pre .1 .1 .0) (c .before .before .before .before .before .before .before .before .before .before .before .before .before .open-block .ensures) (c .before .before .before .before .before .before .before .before .before .before .before .pushed .ensures) .tabled, front _ (after (c .before .before .before .put-rec2 .ensures) (after (c .before .before .before .before .before .before .before .put-rec .ensures) (room-as (aggregate-bytes (c .before .before .before .before .before .before .before .before .before .before .before .before .before .before .before .before .before .pre .1 .0) _ _ (c .before .before .before .before .before .before .before .before .before .before .before .before .before .before .before .before .before .pre .1 .1 .0) (c .before .before .before .before .before .before .before .before .before .before .before .before .before .open-block .ensures) (c .before .before .before .before .before .before .before .before .before .before .before .pushed .ensures) (c .before .before .before .before .before .before .before .before .before .has-value .ensures) (c .before .before .before .before .before .before .before .before .before .before .block-class .ensures)) (c .before .before .before .before .before .before .before .before .before .before .before .before .before .before .before .before .before .pre .1 .1 .1))))))
     -- write-block-write-at-row-requires
-    (λ c κs. ((let z = c .before .before .before .before .before .before .before .before .before .before .before .before .before .before .before .before .before .before .before .before .pre .0 in let l = c .before .before .before .before .before .before .before .before .before .before .before .before .before .before .before .before .before .before .before .before .pre .1 .0 .ready .left in omega arith), ((opened-there (c .before .before .before .before .before .before .before .before .before .before .before .before .before .before .before .before .before .before .before .before .pre .1 .0) _ _ (c .before .before .before .before .before .before .before .before .before .before .before .before .before .before .before .before .before .before .before .before .pre .1 .1 .0) (c .before .before .before .before .before .before .before .before .before .before .before .before .before .before .before .before .open-block .ensures) (c .before .before .before .before .before .before .before .before .before .before .before .before .before .before .pushed .ensures) .test, rowed (c .before .before .before .before .before .before .before .before .before .before .before .before .before .before .before .before .before .before .before .before .pre .1 .0) _ _ (c .before .before .before .before .before .before .before .before .before .before .before .before .before .before .before .before .before .before .before .before .pre .1 .1 .0) (c .before .before .before .before .before .before .before .before .before .before .before .before .before .before .before .before .open-block .ensures) (c .before .before .before .before .before .before .before .before .before .before .before .before .before .before .pushed .ensures)), (value-of (c .before .before .before .before .before .before .before .before .before .before .before .before .before .before .before .before .before .before .before .before .pre .1 .0) _ _ (c .before .before .before .before .before .before .before .before .before .before .before .before .before .before .before .before .before .before .before .before .pre .1 .1 .0) (c .before .before .before .before .before .before .before .before .before .before .before .before .before .before .before .before .open-block .ensures) (c .before .before .before .before .before .before .before .before .before .before .before .before .before .before .pushed .ensures), front _ (after (c .before .before .before .table-recs .ensures) (after (c .before .before .before .before .before .before .before .put-rec2 .ensures) (after (c .before .before .before .before .before .before .before .before .before .before .before .put-rec .ensures) (room-as (aggregate-bytes (c .before .before .before .before .before .before .before .before .before .before .before .before .before .before .before .before .before .before .before .before .pre .1 .0) _ _ (c .before .before .before .before .before .before .before .before .before .before .before .before .before .before .before .before .before .before .before .before .pre .1 .1 .0) (c .before .before .before .before .before .before .before .before .before .before .before .before .before .before .before .before .open-block .ensures) (c .before .before .before .before .before .before .before .before .before .before .before .before .before .before .pushed .ensures) (c .before .before .before .before .before .before .before .before .before .before .before .before .before .block-class .ensures)) (c .before .before .before .before .before .before .before .before .before .before .before .before .before .before .before .before .before .before .before .before .pre .1 .1 .1)))))))))
+    (λ c κs. ((let z = c .before .before .before .before .before .before .before .before .before .before .before .before .before .before .before .before .before .before .before .before .before .pre .0 in let l = c .before .before .before .before .before .before .before .before .before .before .before .before .before .before .before .before .before .before .before .before .before .pre .1 .0 .ready .left in omega arith), ((opened-there (c .before .before .before .before .before .before .before .before .before .before .before .before .before .before .before .before .before .before .before .before .before .pre .1 .0) _ _ (c .before .before .before .before .before .before .before .before .before .before .before .before .before .before .before .before .before .before .before .before .before .pre .1 .1 .0) (c .before .before .before .before .before .before .before .before .before .before .before .before .before .before .before .before .before .open-block .ensures) (c .before .before .before .before .before .before .before .before .before .before .before .before .before .before .before .pushed .ensures) .test, rowed (c .before .before .before .before .before .before .before .before .before .before .before .before .before .before .before .before .before .before .before .before .before .pre .1 .0) _ _ (c .before .before .before .before .before .before .before .before .before .before .before .before .before .before .before .before .before .before .before .before .before .pre .1 .1 .0) (c .before .before .before .before .before .before .before .before .before .before .before .before .before .before .before .before .before .open-block .ensures) (c .before .before .before .before .before .before .before .before .before .before .before .before .before .before .before .pushed .ensures)), (value-of (c .before .before .before .before .before .before .before .before .before .before .before .before .before .before .before .before .before .before .before .before .before .pre .1 .0) _ _ (c .before .before .before .before .before .before .before .before .before .before .before .before .before .before .before .before .before .before .before .before .before .pre .1 .1 .0) (c .before .before .before .before .before .before .before .before .before .before .before .before .before .before .before .before .before .open-block .ensures) (c .before .before .before .before .before .before .before .before .before .before .before .before .before .before .before .pushed .ensures) (c .before .before .before .before .before .before .before .before .before .before .before .before .before .has-value .ensures), front _ (after (c .before .before .before .table-recs .ensures) (after (c .before .before .before .before .before .before .before .put-rec2 .ensures) (after (c .before .before .before .before .before .before .before .before .before .before .before .put-rec .ensures) (room-as (aggregate-bytes (c .before .before .before .before .before .before .before .before .before .before .before .before .before .before .before .before .before .before .before .before .before .pre .1 .0) _ _ (c .before .before .before .before .before .before .before .before .before .before .before .before .before .before .before .before .before .before .before .before .before .pre .1 .1 .0) (c .before .before .before .before .before .before .before .before .before .before .before .before .before .before .before .before .before .open-block .ensures) (c .before .before .before .before .before .before .before .before .before .before .before .before .before .before .before .pushed .ensures) (c .before .before .before .before .before .before .before .before .before .before .before .before .before .has-value .ensures) (c .before .before .before .before .before .before .before .before .before .before .before .before .before .before .block-class .ensures)) (c .before .before .before .before .before .before .before .before .before .before .before .before .before .before .before .before .before .before .before .before .before .pre .1 .1 .1)))))))))
     -- write-block-put-rec-requires-3
-    (λ c κs. room-rec _ _ _ _ _ (after (c .before .before .before .write-at-row .ensures) (after (c .before .before .before .before .before .before .before .table-recs .ensures) (after (c .before .before .before .before .before .before .before .before .before .before .before .put-rec2 .ensures) (after (c .before .before .before .before .before .before .before .before .before .before .before .before .before .before .before .put-rec .ensures) (room-as (aggregate-bytes (c .before .before .before .before .before .before .before .before .before .before .before .before .before .before .before .before .before .before .before .before .before .before .before .before .pre .1 .0) _ _ (c .before .before .before .before .before .before .before .before .before .before .before .before .before .before .before .before .before .before .before .before .before .before .before .before .pre .1 .1 .0) (c .before .before .before .before .before .before .before .before .before .before .before .before .before .before .before .before .before .before .before .before .open-block .ensures) (c .before .before .before .before .before .before .before .before .before .before .before .before .before .before .before .before .before .before .pushed .ensures) (c .before .before .before .before .before .before .before .before .before .before .before .before .before .before .before .before .before .block-class .ensures)) (c .before .before .before .before .before .before .before .before .before .before .before .before .before .before .before .before .before .before .before .before .before .before .before .before .pre .1 .1 .1)))))))
+    (λ c κs. room-rec _ _ _ _ _ (after (c .before .before .before .write-at-row .ensures) (after (c .before .before .before .before .before .before .before .table-recs .ensures) (after (c .before .before .before .before .before .before .before .before .before .before .before .put-rec2 .ensures) (after (c .before .before .before .before .before .before .before .before .before .before .before .before .before .before .before .put-rec .ensures) (room-as (aggregate-bytes (c .before .before .before .before .before .before .before .before .before .before .before .before .before .before .before .before .before .before .before .before .before .before .before .before .before .pre .1 .0) _ _ (c .before .before .before .before .before .before .before .before .before .before .before .before .before .before .before .before .before .before .before .before .before .before .before .before .before .pre .1 .1 .0) (c .before .before .before .before .before .before .before .before .before .before .before .before .before .before .before .before .before .before .before .before .before .open-block .ensures) (c .before .before .before .before .before .before .before .before .before .before .before .before .before .before .before .before .before .before .before .pushed .ensures) (c .before .before .before .before .before .before .before .before .before .before .before .before .before .before .before .before .before .has-value .ensures) (c .before .before .before .before .before .before .before .before .before .before .before .before .before .before .before .before .before .before .block-class .ensures)) (c .before .before .before .before .before .before .before .before .before .before .before .before .before .before .before .before .before .before .before .before .before .before .before .before .before .pre .1 .1 .1)))))))
     -- write-block-same-length
     (λ c. kept (c .before .before .put-rec3 .ensures) ∙ kept (c .before .before .before .before .before .before .write-at-row .ensures) ∙ kept (c .before .before .before .before .before .before .before .before .before .before .table-recs .ensures) ∙ kept (c .before .before .before .before .before .before .before .before .before .before .before .before .before .before .put-rec2 .ensures) ∙ kept (c .before .before .before .before .before .before .before .before .before .before .before .before .before .before .before .before .before .before .put-rec .ensures))
     -- write-block-returns
-    (λ c. wrote-as (sym (aggregate-bytes (c .before .before .before .before .before .before .before .before .before .before .before .before .before .before .before .before .before .before .before .before .before .before .before .before .before .before .before .pre .1 .0) _ _ (c .before .before .before .before .before .before .before .before .before .before .before .before .before .before .before .before .before .before .before .before .before .before .before .before .before .before .before .pre .1 .1 .0) (c .before .before .before .before .before .before .before .before .before .before .before .before .before .before .before .before .before .before .before .before .before .before .before .open-block .ensures) (c .before .before .before .before .before .before .before .before .before .before .before .before .before .before .before .before .before .before .before .before .before .pushed .ensures) (c .before .before .before .before .before .before .before .before .before .before .before .before .before .before .before .before .before .before .before .before .block-class .ensures))) (then (c .before .before .before .before .before .before .before .before .before .before .before .before .before .before .before .before .before .before .put-rec .ensures) (then (c .before .before .before .before .before .before .before .before .before .before .before .before .before .before .put-rec2 .ensures) (then (c .before .before .before .before .before .before .before .before .before .before .table-recs .ensures) (then (c .before .before .before .before .before .before .write-at-row .ensures) (c .before .before .put-rec3 .ensures)))))))
+    (λ c. wrote-as (sym (aggregate-bytes (c .before .before .before .before .before .before .before .before .before .before .before .before .before .before .before .before .before .before .before .before .before .before .before .before .before .before .before .before .pre .1 .0) _ _ (c .before .before .before .before .before .before .before .before .before .before .before .before .before .before .before .before .before .before .before .before .before .before .before .before .before .before .before .before .pre .1 .1 .0) (c .before .before .before .before .before .before .before .before .before .before .before .before .before .before .before .before .before .before .before .before .before .before .before .before .open-block .ensures) (c .before .before .before .before .before .before .before .before .before .before .before .before .before .before .before .before .before .before .before .before .before .before .pushed .ensures) (c .before .before .before .before .before .before .before .before .before .before .before .before .before .before .before .before .before .before .before .before .has-value .ensures) (c .before .before .before .before .before .before .before .before .before .before .before .before .before .before .before .before .before .before .before .before .before .block-class .ensures))) (then (c .before .before .before .before .before .before .before .before .before .before .before .before .before .before .before .before .before .before .put-rec .ensures) (then (c .before .before .before .before .before .before .before .before .before .before .before .before .before .before .put-rec2 .ensures) (then (c .before .before .before .before .before .before .before .before .before .before .table-recs .ensures) (then (c .before .before .before .before .before .before .write-at-row .ensures) (c .before .before .put-rec3 .ensures)))))))
     (λ t. write-c-lts.spec (
       known-reads.Asked,
       known-reads.Learnt,
@@ -413,17 +418,17 @@ pub +write-at-row+write-binop+write-block+write-c+write-choice+write-if+write-ke
     -- write-choice-write-d-requires
     (λ c κs. ((c .before .before .before .before .before .before .before .before .before .before .before .before .before .pre .1 .0), front _ (after (c .before .before .before .put-rec2 .ensures) (room-as (choice-tree _ (c .before .before .before .before .before .before .before .before .before .known .ensures) (c .before .before .before .before .before .before .before .before .known2 .ensures) (c .before .before .before .before .before .before .before .chosen .ensures) (c .before .before .before .before .before .enum-told .given .1)) (c .before .before .before .before .before .before .before .before .before .before .before .before .before .pre .1 .1 .1 .1)))))
     -- write-choice-write-c-requires
-    (λ c κs. ((let z = c .before .before .before .before .before .before .before .before .before .before .before .before .before .before .before .before .before .pre .0 in omega arith), (c .before .before .before .before .before .before .before .before .before .before .before .before .before .before .before .before .before .pre .1 .1 .0, front _ (after (c .before .before .before .write-d .ensures .1) (after (c .before .before .before .before .before .before .before .put-rec2 .ensures) (room-as (choice-tree _ (c .before .before .before .before .before .before .before .before .before .before .before .before .before .known .ensures) (c .before .before .before .before .before .before .before .before .before .before .before .before .known2 .ensures) (c .before .before .before .before .before .before .before .before .before .before .before .chosen .ensures) (c .before .before .before .before .before .before .before .before .before .enum-told .given .1)) (c .before .before .before .before .before .before .before .before .before .before .before .before .before .before .before .before .before .pre .1 .1 .1 .1)))))))
+    (λ c κs. ((let z = c .before .before .before .before .before .before .before .before .before .before .before .before .before .before .before .before .before .pre .0 in omega arith), (c .before .before .before .before .before .before .before .before .before .before .before .before .before .before .before .before .before .pre .1 .1 .0, front _ (after (c .before .before .before .write-d .ensures .1 .0) (after (c .before .before .before .before .before .before .before .put-rec2 .ensures) (room-as (choice-tree _ (c .before .before .before .before .before .before .before .before .before .before .before .before .before .known .ensures) (c .before .before .before .before .before .before .before .before .before .before .before .before .known2 .ensures) (c .before .before .before .before .before .before .before .before .before .before .before .chosen .ensures) (c .before .before .before .before .before .before .before .before .before .enum-told .given .1)) (c .before .before .before .before .before .before .before .before .before .before .before .before .before .before .before .before .before .pre .1 .1 .1 .1)))))))
     -- write-choice-write-c-requires-2
-    (λ c κs. ((let z = c .before .before .before .before .before .before .before .before .before .before .before .before .before .before .before .before .before .before .before .before .before .pre .0 in omega arith), (c .before .before .before .before .before .before .before .before .before .before .before .before .before .before .before .before .before .before .before .before .before .pre .1 .1 .1 .0, after (c .before .before .before .write-c .ensures) (after (c .before .before .before .before .before .before .before .write-d .ensures .1) (after (c .before .before .before .before .before .before .before .before .before .before .before .put-rec2 .ensures) (room-as (choice-tree _ (c .before .before .before .before .before .before .before .before .before .before .before .before .before .before .before .before .before .known .ensures) (c .before .before .before .before .before .before .before .before .before .before .before .before .before .before .before .before .known2 .ensures) (c .before .before .before .before .before .before .before .before .before .before .before .before .before .before .before .chosen .ensures) (c .before .before .before .before .before .before .before .before .before .before .before .before .before .enum-told .given .1)) (c .before .before .before .before .before .before .before .before .before .before .before .before .before .before .before .before .before .before .before .before .before .pre .1 .1 .1 .1)))))))
+    (λ c κs. ((let z = c .before .before .before .before .before .before .before .before .before .before .before .before .before .before .before .before .before .before .before .before .before .pre .0 in omega arith), (c .before .before .before .before .before .before .before .before .before .before .before .before .before .before .before .before .before .before .before .before .before .pre .1 .1 .1 .0, after (c .before .before .before .write-c .ensures) (after (c .before .before .before .before .before .before .before .write-d .ensures .1 .0) (after (c .before .before .before .before .before .before .before .before .before .before .before .put-rec2 .ensures) (room-as (choice-tree _ (c .before .before .before .before .before .before .before .before .before .before .before .before .before .before .before .before .before .known .ensures) (c .before .before .before .before .before .before .before .before .before .before .before .before .before .before .before .before .known2 .ensures) (c .before .before .before .before .before .before .before .before .before .before .before .before .before .before .before .chosen .ensures) (c .before .before .before .before .before .before .before .before .before .before .before .before .before .enum-told .given .1)) (c .before .before .before .before .before .before .before .before .before .before .before .before .before .before .before .before .before .before .before .before .before .pre .1 .1 .1 .1)))))))
     -- write-choice-same-length
     (λ c. kept (c .before .before .put-rec .ensures))
     -- write-choice-returns
     (λ c. wrote-as (sym (choice-fixed _ (c .before .before .before .before .before .before .before .before .before .known .ensures) (c .before .before .before .before .before .before .before .before .known2 .ensures) (c .before .before .before .before .before .before .before .chosen .ensures) (c .before .before .before .before .before .h .given .1))) (c .before .before .put-rec .ensures))
     -- write-choice-same-length-2
-    (λ c. kept (c .before .before .write-c2 .ensures) ∙ kept (c .before .before .before .before .before .before .write-c .ensures) ∙ kept (c .before .before .before .before .before .before .before .before .before .before .write-d .ensures .1) ∙ kept (c .before .before .before .before .before .before .before .before .before .before .before .before .before .before .put-rec2 .ensures))
+    (λ c. kept (c .before .before .write-c2 .ensures) ∙ kept (c .before .before .before .before .before .before .write-c .ensures) ∙ kept (c .before .before .before .before .before .before .before .before .before .before .write-d .ensures .1 .0) ∙ kept (c .before .before .before .before .before .before .before .before .before .before .before .before .before .before .put-rec2 .ensures))
     -- write-choice-returns-2
-    (λ c. wrote-as (sym (choice-tree _ (c .before .before .before .before .before .before .before .before .before .before .before .before .before .before .before .before .before .before .before .before .known .ensures) (c .before .before .before .before .before .before .before .before .before .before .before .before .before .before .before .before .before .before .before .known2 .ensures) (c .before .before .before .before .before .before .before .before .before .before .before .before .before .before .before .before .before .before .chosen .ensures) (c .before .before .before .before .before .before .before .before .before .before .before .before .before .before .before .before .enum-told .given .1))) (then (c .before .before .before .before .before .before .before .before .before .before .before .before .before .before .put-rec2 .ensures) (then (c .before .before .before .before .before .before .before .before .before .before .write-d .ensures .1) (then (c .before .before .before .before .before .before .write-c .ensures) (c .before .before .write-c2 .ensures))))))
+    (λ c. wrote-as (sym (choice-tree _ (c .before .before .before .before .before .before .before .before .before .before .before .before .before .before .before .before .before .before .before .before .known .ensures) (c .before .before .before .before .before .before .before .before .before .before .before .before .before .before .before .before .before .before .before .known2 .ensures) (c .before .before .before .before .before .before .before .before .before .before .before .before .before .before .before .before .before .before .chosen .ensures) (c .before .before .before .before .before .before .before .before .before .before .before .before .before .before .before .before .enum-told .given .1))) (then (c .before .before .before .before .before .before .before .before .before .before .before .before .before .before .put-rec2 .ensures) (then (c .before .before .before .before .before .before .before .before .before .before .write-d .ensures .1 .0) (then (c .before .before .before .before .before .before .write-c .ensures) (c .before .before .write-c2 .ensures))))))
     (λ t. write-if-lts.spec (
       known-reads.Asked,
       known-reads.Learnt,
@@ -495,17 +500,17 @@ pub +write-at-row+write-binop+write-block+write-c+write-choice+write-if+write-ke
     -- write-kept-write-d-requires
     (λ c κs. ((c .before .before .before .before .before .before .before .before .before .before .before .before .pre .1 .0), front _ (after (c .before .before .before .put-rec2 .ensures) (room-as (kept-tree _ (c .before .before .before .before .before .before .before .before .known .ensures) (c .before .before .before .before .before .before .before .chosen .ensures) (c .before .before .before .before .before .enum-told .given .1)) (c .before .before .before .before .before .before .before .before .before .before .before .before .pre .1 .1 .1)))))
     -- write-kept-write-c-requires
-    (λ c κs. ((let z = c .before .before .before .before .before .before .before .before .before .before .before .before .before .before .before .before .pre .0 in omega arith), (c .before .before .before .before .before .before .before .before .before .before .before .before .before .before .before .before .pre .1 .1 .0, front _ (after (c .before .before .before .write-d .ensures .1) (after (c .before .before .before .before .before .before .before .put-rec2 .ensures) (room-as (kept-tree _ (c .before .before .before .before .before .before .before .before .before .before .before .before .known .ensures) (c .before .before .before .before .before .before .before .before .before .before .before .chosen .ensures) (c .before .before .before .before .before .before .before .before .before .enum-told .given .1)) (c .before .before .before .before .before .before .before .before .before .before .before .before .before .before .before .before .pre .1 .1 .1)))))))
+    (λ c κs. ((let z = c .before .before .before .before .before .before .before .before .before .before .before .before .before .before .before .before .pre .0 in omega arith), (c .before .before .before .before .before .before .before .before .before .before .before .before .before .before .before .before .pre .1 .1 .0, front _ (after (c .before .before .before .write-d .ensures .1 .0) (after (c .before .before .before .before .before .before .before .put-rec2 .ensures) (room-as (kept-tree _ (c .before .before .before .before .before .before .before .before .before .before .before .before .known .ensures) (c .before .before .before .before .before .before .before .before .before .before .before .chosen .ensures) (c .before .before .before .before .before .before .before .before .before .enum-told .given .1)) (c .before .before .before .before .before .before .before .before .before .before .before .before .before .before .before .before .pre .1 .1 .1)))))))
     -- write-kept-put-rec-requires-3
-    (λ c κs. room-rec _ _ _ _ _ (after (c .before .before .before .write-c .ensures) (after (c .before .before .before .before .before .before .before .write-d .ensures .1) (after (c .before .before .before .before .before .before .before .before .before .before .before .put-rec2 .ensures) (room-as (kept-tree _ (c .before .before .before .before .before .before .before .before .before .before .before .before .before .before .before .before .known .ensures) (c .before .before .before .before .before .before .before .before .before .before .before .before .before .before .before .chosen .ensures) (c .before .before .before .before .before .before .before .before .before .before .before .before .before .enum-told .given .1)) (c .before .before .before .before .before .before .before .before .before .before .before .before .before .before .before .before .before .before .before .before .pre .1 .1 .1))))))
+    (λ c κs. room-rec _ _ _ _ _ (after (c .before .before .before .write-c .ensures) (after (c .before .before .before .before .before .before .before .write-d .ensures .1 .0) (after (c .before .before .before .before .before .before .before .before .before .before .before .put-rec2 .ensures) (room-as (kept-tree _ (c .before .before .before .before .before .before .before .before .before .before .before .before .before .before .before .before .known .ensures) (c .before .before .before .before .before .before .before .before .before .before .before .before .before .before .before .chosen .ensures) (c .before .before .before .before .before .before .before .before .before .before .before .before .before .enum-told .given .1)) (c .before .before .before .before .before .before .before .before .before .before .before .before .before .before .before .before .before .before .before .before .pre .1 .1 .1))))))
     -- write-kept-same-length
     (λ c. kept (c .before .before .put-rec .ensures))
     -- write-kept-returns
     (λ c. wrote-as (sym (kept-fixed _ (c .before .before .before .before .before .before .before .before .known .ensures) (c .before .before .before .before .before .before .before .chosen .ensures) (c .before .before .before .before .before .h .given .1))) (c .before .before .put-rec .ensures))
     -- write-kept-same-length-2
-    (λ c. kept (c .before .before .put-rec3 .ensures) ∙ kept (c .before .before .before .before .before .before .write-c .ensures) ∙ kept (c .before .before .before .before .before .before .before .before .before .before .write-d .ensures .1) ∙ kept (c .before .before .before .before .before .before .before .before .before .before .before .before .before .before .put-rec2 .ensures))
+    (λ c. kept (c .before .before .put-rec3 .ensures) ∙ kept (c .before .before .before .before .before .before .write-c .ensures) ∙ kept (c .before .before .before .before .before .before .before .before .before .before .write-d .ensures .1 .0) ∙ kept (c .before .before .before .before .before .before .before .before .before .before .before .before .before .before .put-rec2 .ensures))
     -- write-kept-returns-2
-    (λ c. wrote-as (sym (kept-tree _ (c .before .before .before .before .before .before .before .before .before .before .before .before .before .before .before .before .before .before .before .known .ensures) (c .before .before .before .before .before .before .before .before .before .before .before .before .before .before .before .before .before .before .chosen .ensures) (c .before .before .before .before .before .before .before .before .before .before .before .before .before .before .before .before .enum-told .given .1))) (then (c .before .before .before .before .before .before .before .before .before .before .before .before .before .before .put-rec2 .ensures) (then (c .before .before .before .before .before .before .before .before .before .before .write-d .ensures .1) (then (c .before .before .before .before .before .before .write-c .ensures) (c .before .before .put-rec3 .ensures))))))
+    (λ c. wrote-as (sym (kept-tree _ (c .before .before .before .before .before .before .before .before .before .before .before .before .before .before .before .before .before .before .before .known .ensures) (c .before .before .before .before .before .before .before .before .before .before .before .before .before .before .before .before .before .before .chosen .ensures) (c .before .before .before .before .before .before .before .before .before .before .before .before .before .before .before .before .enum-told .given .1))) (then (c .before .before .before .before .before .before .before .before .before .before .before .before .before .before .put-rec2 .ensures) (then (c .before .before .before .before .before .before .before .before .before .before .write-d .ensures .1 .0) (then (c .before .before .before .before .before .before .write-c .ensures) (c .before .before .put-rec3 .ensures))))))
     (λ t. write-let-lts.spec (
       known-reads.Asked,
       known-reads.Learnt,
@@ -541,7 +546,7 @@ pub +write-at-row+write-binop+write-block+write-c+write-choice+write-if+write-ke
     -- write-let-write-d-requires
     (λ c κs. (own-there (c .before .before .before .before .before .before .before .before .before .before .before .before .before .pre .1 .0) (c .before .before .before .before .before .before .before .before .before .before .before .before .before .pre .1 .1 .0 .1), front _ (after (c .before .before .before .put-rec .ensures) (room-as (bind-bytes (c .before .before .before .before .before .before .before .before .before .before .before .before .before .pre .1 .0) (c .before .before .before .before .before .before .before .before .before .before .before .before .before .pre .1 .1 .0 .1) (c .before .before .before .before .before .before .before .before .before .known .ensures) (c .before .before .before .before .before .before .before .before .local-scope .ensures) (c .before .before .before .before .before .before .before .pushed .ensures) (c .before .before .before .before .before .before .before .before .before .before .before .before .before .pre .1 .1 .0 .0) (c .before .before .before .before .before .enum-told .given .1)) (c .before .before .before .before .before .before .before .before .before .before .before .before .before .pre .1 .1 .1)))))
     -- write-let-write-c-requires
-    (λ c κs. ((let z = c .before .before .before .before .before .before .before .before .before .before .before .before .before .before .before .before .before .pre .0 in let l = c .before .before .before .before .before .before .before .before .before .before .before .before .before .before .before .before .before .pre .1 .0 .ready .left in omega arith), (body-there (c .before .before .before .before .before .before .before .before .before .before .before .before .before .before .before .before .before .pre .1 .0) (c .before .before .before .before .before .before .before .before .before .before .before .before .before .before .before .before .before .pre .1 .1 .0 .1) (c .before .before .before .before .before .before .before .before .before .before .before .before .before .known .ensures) (c .before .before .before .before .before .before .before .before .before .before .before .before .local-scope .ensures) (c .before .before .before .before .before .before .before .before .before .before .before .pushed .ensures), after (c .before .before .before .write-d .ensures .1) (after (c .before .before .before .before .before .before .before .put-rec .ensures) (room-as (bind-bytes (c .before .before .before .before .before .before .before .before .before .before .before .before .before .before .before .before .before .pre .1 .0) (c .before .before .before .before .before .before .before .before .before .before .before .before .before .before .before .before .before .pre .1 .1 .0 .1) (c .before .before .before .before .before .before .before .before .before .before .before .before .before .known .ensures) (c .before .before .before .before .before .before .before .before .before .before .before .before .local-scope .ensures) (c .before .before .before .before .before .before .before .before .before .before .before .pushed .ensures) (c .before .before .before .before .before .before .before .before .before .before .before .before .before .before .before .before .before .pre .1 .1 .0 .0) (c .before .before .before .before .before .before .before .before .before .enum-told .given .1)) (c .before .before .before .before .before .before .before .before .before .before .before .before .before .before .before .before .before .pre .1 .1 .1))))))
+    (λ c κs. ((let z = c .before .before .before .before .before .before .before .before .before .before .before .before .before .before .before .before .before .pre .0 in let l = c .before .before .before .before .before .before .before .before .before .before .before .before .before .before .before .before .before .pre .1 .0 .ready .left in omega arith), (body-there (c .before .before .before .before .before .before .before .before .before .before .before .before .before .before .before .before .before .pre .1 .0) (c .before .before .before .before .before .before .before .before .before .before .before .before .before .before .before .before .before .pre .1 .1 .0 .1) (c .before .before .before .before .before .before .before .before .before .before .before .before .before .known .ensures) (c .before .before .before .before .before .before .before .before .before .before .before .before .local-scope .ensures) (c .before .before .before .before .before .before .before .before .before .before .before .pushed .ensures), after (c .before .before .before .write-d .ensures .1 .0) (after (c .before .before .before .before .before .before .before .put-rec .ensures) (room-as (bind-bytes (c .before .before .before .before .before .before .before .before .before .before .before .before .before .before .before .before .before .pre .1 .0) (c .before .before .before .before .before .before .before .before .before .before .before .before .before .before .before .before .before .pre .1 .1 .0 .1) (c .before .before .before .before .before .before .before .before .before .before .before .before .before .known .ensures) (c .before .before .before .before .before .before .before .before .before .before .before .before .local-scope .ensures) (c .before .before .before .before .before .before .before .before .before .before .before .pushed .ensures) (c .before .before .before .before .before .before .before .before .before .before .before .before .before .before .before .before .before .pre .1 .1 .0 .0) (c .before .before .before .before .before .before .before .before .before .enum-told .given .1)) (c .before .before .before .before .before .before .before .before .before .before .before .before .before .before .before .before .before .pre .1 .1 .1))))))
     -- write-let-enum-told-2
     (λ c. search needs)
     -- write-let-put-rec-requires-2
@@ -551,15 +556,15 @@ pub +write-at-row+write-binop+write-block+write-c+write-choice+write-if+write-ke
     -- write-let-write-d-requires-2
     (λ c κs. (own-there (c .before .before .before .before .before .before .before .before .before .before .before .before .before .before .before .before .before .pre .1 .0) (c .before .before .before .before .before .before .before .before .before .before .before .before .before .before .before .before .before .pre .1 .1 .0 .1), front _ (after (c .before .before .before .write-c2 .ensures) (after (c .before .before .before .before .before .before .before .put-rec2 .ensures) (room-as (bindc-bytes (c .before .before .before .before .before .before .before .before .before .before .before .before .before .before .before .before .before .pre .1 .0) (c .before .before .before .before .before .before .before .before .before .before .before .before .before .before .before .before .before .pre .1 .1 .0 .1) (c .before .before .before .before .before .before .before .before .before .before .before .before .before .known .ensures) (c .before .before .before .before .before .before .before .before .before .before .before .before .local-scope .ensures) (c .before .before .before .before .before .before .before .before .before .before .before .pushed .ensures) (c .before .before .before .before .before .before .before .before .before .before .before .before .before .before .before .before .before .pre .1 .1 .0 .0) (c .before .before .before .before .before .before .before .before .before .enum-told2 .given .1)) (c .before .before .before .before .before .before .before .before .before .before .before .before .before .before .before .before .before .pre .1 .1 .1))))))
     -- write-let-write-c-requires-3
-    (λ c κs. ((let z = c .before .before .before .before .before .before .before .before .before .before .before .before .before .before .before .before .before .before .before .before .before .pre .0 in let l = c .before .before .before .before .before .before .before .before .before .before .before .before .before .before .before .before .before .before .before .before .before .pre .1 .0 .ready .left in omega arith), (body-there (c .before .before .before .before .before .before .before .before .before .before .before .before .before .before .before .before .before .before .before .before .before .pre .1 .0) (c .before .before .before .before .before .before .before .before .before .before .before .before .before .before .before .before .before .before .before .before .before .pre .1 .1 .0 .1) (c .before .before .before .before .before .before .before .before .before .before .before .before .before .before .before .before .before .known .ensures) (c .before .before .before .before .before .before .before .before .before .before .before .before .before .before .before .before .local-scope .ensures) (c .before .before .before .before .before .before .before .before .before .before .before .before .before .before .before .pushed .ensures), after (c .before .before .before .write-d2 .ensures .1) (after (c .before .before .before .before .before .before .before .write-c2 .ensures) (after (c .before .before .before .before .before .before .before .before .before .before .before .put-rec2 .ensures) (room-as (bindc-bytes (c .before .before .before .before .before .before .before .before .before .before .before .before .before .before .before .before .before .before .before .before .before .pre .1 .0) (c .before .before .before .before .before .before .before .before .before .before .before .before .before .before .before .before .before .before .before .before .before .pre .1 .1 .0 .1) (c .before .before .before .before .before .before .before .before .before .before .before .before .before .before .before .before .before .known .ensures) (c .before .before .before .before .before .before .before .before .before .before .before .before .before .before .before .before .local-scope .ensures) (c .before .before .before .before .before .before .before .before .before .before .before .before .before .before .before .pushed .ensures) (c .before .before .before .before .before .before .before .before .before .before .before .before .before .before .before .before .before .before .before .before .before .pre .1 .1 .0 .0) (c .before .before .before .before .before .before .before .before .before .before .before .before .before .enum-told2 .given .1)) (c .before .before .before .before .before .before .before .before .before .before .before .before .before .before .before .before .before .before .before .before .before .pre .1 .1 .1)))))))
+    (λ c κs. ((let z = c .before .before .before .before .before .before .before .before .before .before .before .before .before .before .before .before .before .before .before .before .before .pre .0 in let l = c .before .before .before .before .before .before .before .before .before .before .before .before .before .before .before .before .before .before .before .before .before .pre .1 .0 .ready .left in omega arith), (body-there (c .before .before .before .before .before .before .before .before .before .before .before .before .before .before .before .before .before .before .before .before .before .pre .1 .0) (c .before .before .before .before .before .before .before .before .before .before .before .before .before .before .before .before .before .before .before .before .before .pre .1 .1 .0 .1) (c .before .before .before .before .before .before .before .before .before .before .before .before .before .before .before .before .before .known .ensures) (c .before .before .before .before .before .before .before .before .before .before .before .before .before .before .before .before .local-scope .ensures) (c .before .before .before .before .before .before .before .before .before .before .before .before .before .before .before .pushed .ensures), after (c .before .before .before .write-d2 .ensures .1 .0) (after (c .before .before .before .before .before .before .before .write-c2 .ensures) (after (c .before .before .before .before .before .before .before .before .before .before .before .put-rec2 .ensures) (room-as (bindc-bytes (c .before .before .before .before .before .before .before .before .before .before .before .before .before .before .before .before .before .before .before .before .before .pre .1 .0) (c .before .before .before .before .before .before .before .before .before .before .before .before .before .before .before .before .before .before .before .before .before .pre .1 .1 .0 .1) (c .before .before .before .before .before .before .before .before .before .before .before .before .before .before .before .before .before .known .ensures) (c .before .before .before .before .before .before .before .before .before .before .before .before .before .before .before .before .local-scope .ensures) (c .before .before .before .before .before .before .before .before .before .before .before .before .before .before .before .pushed .ensures) (c .before .before .before .before .before .before .before .before .before .before .before .before .before .before .before .before .before .before .before .before .before .pre .1 .1 .0 .0) (c .before .before .before .before .before .before .before .before .before .before .before .before .before .enum-told2 .given .1)) (c .before .before .before .before .before .before .before .before .before .before .before .before .before .before .before .before .before .before .before .before .before .pre .1 .1 .1)))))))
     -- write-let-same-length
-    (λ c. kept (c .before .before .write-c .ensures) ∙ kept (c .before .before .before .before .before .before .write-d .ensures .1) ∙ kept (c .before .before .before .before .before .before .before .before .before .before .put-rec .ensures))
+    (λ c. kept (c .before .before .write-c .ensures) ∙ kept (c .before .before .before .before .before .before .write-d .ensures .1 .0) ∙ kept (c .before .before .before .before .before .before .before .before .before .before .put-rec .ensures))
     -- write-let-returns
-    (λ c. wrote-as (sym (bind-bytes (c .before .before .before .before .before .before .before .before .before .before .before .before .before .before .before .before .before .before .before .before .pre .1 .0) (c .before .before .before .before .before .before .before .before .before .before .before .before .before .before .before .before .before .before .before .before .pre .1 .1 .0 .1) (c .before .before .before .before .before .before .before .before .before .before .before .before .before .before .before .before .known .ensures) (c .before .before .before .before .before .before .before .before .before .before .before .before .before .before .before .local-scope .ensures) (c .before .before .before .before .before .before .before .before .before .before .before .before .before .before .pushed .ensures) (c .before .before .before .before .before .before .before .before .before .before .before .before .before .before .before .before .before .before .before .before .pre .1 .1 .0 .0) (c .before .before .before .before .before .before .before .before .before .before .before .before .enum-told .given .1))) (then (c .before .before .before .before .before .before .before .before .before .before .put-rec .ensures) (then (c .before .before .before .before .before .before .write-d .ensures .1) (c .before .before .write-c .ensures))))
+    (λ c. wrote-as (sym (bind-bytes (c .before .before .before .before .before .before .before .before .before .before .before .before .before .before .before .before .before .before .before .before .pre .1 .0) (c .before .before .before .before .before .before .before .before .before .before .before .before .before .before .before .before .before .before .before .before .pre .1 .1 .0 .1) (c .before .before .before .before .before .before .before .before .before .before .before .before .before .before .before .before .known .ensures) (c .before .before .before .before .before .before .before .before .before .before .before .before .before .before .before .local-scope .ensures) (c .before .before .before .before .before .before .before .before .before .before .before .before .before .before .pushed .ensures) (c .before .before .before .before .before .before .before .before .before .before .before .before .before .before .before .before .before .before .before .before .pre .1 .1 .0 .0) (c .before .before .before .before .before .before .before .before .before .before .before .before .enum-told .given .1))) (then (c .before .before .before .before .before .before .before .before .before .before .put-rec .ensures) (then (c .before .before .before .before .before .before .write-d .ensures .1 .0) (c .before .before .write-c .ensures))))
     -- write-let-same-length-2
-    (λ c. kept (c .before .before .write-c3 .ensures) ∙ kept (c .before .before .before .before .before .before .write-d2 .ensures .1) ∙ kept (c .before .before .before .before .before .before .before .before .before .before .write-c2 .ensures) ∙ kept (c .before .before .before .before .before .before .before .before .before .before .before .before .before .before .put-rec2 .ensures))
+    (λ c. kept (c .before .before .write-c3 .ensures) ∙ kept (c .before .before .before .before .before .before .write-d2 .ensures .1 .0) ∙ kept (c .before .before .before .before .before .before .before .before .before .before .write-c2 .ensures) ∙ kept (c .before .before .before .before .before .before .before .before .before .before .before .before .before .before .put-rec2 .ensures))
     -- write-let-returns-2
-    (λ c. wrote-as (sym (bindc-bytes (c .before .before .before .before .before .before .before .before .before .before .before .before .before .before .before .before .before .before .before .before .before .before .before .before .pre .1 .0) (c .before .before .before .before .before .before .before .before .before .before .before .before .before .before .before .before .before .before .before .before .before .before .before .before .pre .1 .1 .0 .1) (c .before .before .before .before .before .before .before .before .before .before .before .before .before .before .before .before .before .before .before .before .known .ensures) (c .before .before .before .before .before .before .before .before .before .before .before .before .before .before .before .before .before .before .before .local-scope .ensures) (c .before .before .before .before .before .before .before .before .before .before .before .before .before .before .before .before .before .before .pushed .ensures) (c .before .before .before .before .before .before .before .before .before .before .before .before .before .before .before .before .before .before .before .before .before .before .before .before .pre .1 .1 .0 .0) (c .before .before .before .before .before .before .before .before .before .before .before .before .before .before .before .before .enum-told2 .given .1))) (then (c .before .before .before .before .before .before .before .before .before .before .before .before .before .before .put-rec2 .ensures) (then (c .before .before .before .before .before .before .before .before .before .before .write-c2 .ensures) (then (c .before .before .before .before .before .before .write-d2 .ensures .1) (c .before .before .write-c3 .ensures))))))
+    (λ c. wrote-as (sym (bindc-bytes (c .before .before .before .before .before .before .before .before .before .before .before .before .before .before .before .before .before .before .before .before .before .before .before .before .pre .1 .0) (c .before .before .before .before .before .before .before .before .before .before .before .before .before .before .before .before .before .before .before .before .before .before .before .before .pre .1 .1 .0 .1) (c .before .before .before .before .before .before .before .before .before .before .before .before .before .before .before .before .before .before .before .before .known .ensures) (c .before .before .before .before .before .before .before .before .before .before .before .before .before .before .before .before .before .before .before .local-scope .ensures) (c .before .before .before .before .before .before .before .before .before .before .before .before .before .before .before .before .before .before .pushed .ensures) (c .before .before .before .before .before .before .before .before .before .before .before .before .before .before .before .before .before .before .before .before .before .before .before .before .pre .1 .1 .0 .0) (c .before .before .before .before .before .before .before .before .before .before .before .before .before .before .before .before .enum-told2 .given .1))) (then (c .before .before .before .before .before .before .before .before .before .before .before .before .before .before .put-rec2 .ensures) (then (c .before .before .before .before .before .before .before .before .before .before .write-c2 .ensures) (then (c .before .before .before .before .before .before .write-d2 .ensures .1 .0) (c .before .before .write-c3 .ensures))))))
     (λ t. write-lub-lts.spec (
       put-rec-reads.Asked,
       put-rec-reads.Learnt,
@@ -623,11 +628,11 @@ pub +write-at-row+write-binop+write-block+write-c+write-choice+write-if+write-ke
     -- write-open-enum-known-a
     (λ c. search needs)
     -- write-open-write-block-requires
-    (λ c κs. ((let z = c .before .before .before .before .before .before .before .before .pre .0 in omega arith), ((c .before .before .before .before .before .before .before .before .pre .1 .0), (exists-node _ _ _ _ (c .before .before .before .before .node-at .ensures) (c .before .before .a .given .1), (c .before .before .before .before .before .before .before .before .pre .1 .1 .1)))))
+    (λ c κs. ((let z = c .before .before .before .before .before .before .before .before .pre .0 in omega arith), ((c .before .before .before .before .before .before .before .before .pre .1 .0), (exists-node _ _ _ _ _ (c .before .before .before .before .node-at .ensures) (c .before .before .a .given .1), (c .before .before .before .before .before .before .before .before .pre .1 .1 .1)))))
     -- write-open-enum-known-a-2
     (λ c. search needs)
     -- write-open-write-block-requires-2
-    (λ c κs. ((let z = c .before .before .before .before .before .before .before .before .pre .0 in omega arith), ((c .before .before .before .before .before .before .before .before .pre .1 .0), (single-node _ _ _ _ (c .before .before .before .before .node-at .ensures) (c .before .before .a2 .given .1), (c .before .before .before .before .before .before .before .before .pre .1 .1 .1)))))
+    (λ c κs. ((let z = c .before .before .before .before .before .before .before .before .pre .0 in omega arith), ((c .before .before .before .before .before .before .before .before .pre .1 .0), (single-node _ _ _ _ _ (c .before .before .before .before .node-at .ensures) (c .before .before .a2 .given .1), (c .before .before .before .before .before .before .before .before .pre .1 .1 .1)))))
     -- write-open-enum-told-5
     (λ c. search needs)
     -- write-open-enum-told-6

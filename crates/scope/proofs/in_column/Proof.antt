@@ -18,7 +18,5 @@ in-column-spec =
     (λ c κs. search columns)
     -- returns
     (λ c. search columns)
-    -- plus-requires-2
-    (λ c κs. search columns)
     -- returns-2
     (λ c. search columns))

@@ -8,6 +8,20 @@ pub in-scope-spec : {M : Type 1} → statement M
 in-scope-spec =
     tie.close
     (tie.spec
+    -- array-read-own
+    (λ c. search entries)
+    -- array-read-type-from
+    (λ c. search entries)
+    -- array-read-type-from-2
+    (λ c. search entries)
+    -- type-from-requires
+    (λ c κs. search entries)
+    -- array-read-info-from
+    (λ c. search entries)
+    -- array-read-info-from-2
+    (λ c. search entries)
+    -- info-from-requires
+    (λ c κs. search entries)
     -- returns
     (λ c. search entries)
     -- returns-2

@@ -8,8 +8,6 @@ pub in-table-spec : {M : Type 1} → statement M
 in-table-spec =
     tie.close
     (tie.spec
-    -- plus-requires
-    (λ c κs. search columns)
     -- returns
     (λ c. search columns)
     -- a-at-requires
@@ -18,7 +16,5 @@ in-table-spec =
     (λ c κs. search columns)
     -- returns-2
     (λ c. search columns)
-    -- plus-requires-2
-    (λ c κs. search columns)
     -- returns-3
     (λ c. search columns))

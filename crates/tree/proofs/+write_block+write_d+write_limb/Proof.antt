@@ -7,8 +7,8 @@ use Prim.Native.Nat.{ℕ, _+_, _*_, _<_}
 use Rattle.word.proofs.Writing.{kept}
 use Rattle.resolve.proofs.Scoped.{exists-node, single-node, push-room, block-room, block-next, block-few}
 use Rattle.tree.proofs.Accepted.{no-table, no-select, no-bad}
-use Rattle.tree.proofs.Leaves.{room-some}
-use Rattle.tree.proofs.Turns.{conv-asks, limb-asks, limb-done, const-asks, const-done, col-asks, col-done, class-asks, class-done, not-asks, not-done, left-asks, right-asks, binop-done, test-asks, yes-asks, no-asks, if-done, let-value, value-asks, body-asks, let-done, tables-ask, where-asks, exists-done, single-asks, single-done}
+use Rattle.tree.proofs.Leaves.{room-some, op-small}
+use Rattle.tree.proofs.Turns.{conv-asks, limb-asks, limb-done, const-asks, const-done, col-asks, col-done, class-asks, class-done, not-asks, not-done, left-asks, right-asks, binop-asks, binop-done, test-asks, yes-asks, no-asks, if-done, let-value, value-asks, body-asks, let-done, tables-ask, where-asks, exists-done, single-asks, single-done}
 use borrow.Fn.Kinds.{In}
 use borrow.Fn.PlainCycle.{Measures, is, falls, and}
 use Rattle.tree.proofs.write_block.Reads as write-block
@@ -20,13 +20,17 @@ use Rattle.tree.proofs.+write_block+write_d+write_limb.Lts-write_d as w
 use Rattle.tree.proofs.write_limb.Reads as write-limb
 use Rattle.tree.proofs.write_limb.Kinds as write-limb-kinds
 use Rattle.tree.proofs.+write_block+write_d+write_limb.Lts-write_limb as write-limb-lts
+use Rattle.resolve.proofs.fold_type.Reads as fold-type-reads
 use Rattle.scope.proofs.open_block.Reads as open-block-reads
 use Rattle.scope.proofs.find.Reads as find-reads
 use Rattle.scope.proofs.pushed.Reads as pushed-reads
-use Rattle.tree.proofs.known.digits_at.Reads as digits-at-reads
+use Rattle.tree.proofs.known.binop_type.Reads as binop-type-reads
+use Rattle.tree.proofs.known.digits_of.Reads as digits-of-reads
+use Rattle.tree.proofs.known.found_type.Reads as found-type-reads
 use Rattle.tree.proofs.known.local_at.Reads as local-at-reads
 use Rattle.tree.proofs.known.type_at.Reads as type-at-reads
 use Rattle.tree.proofs.records.block_kind.Reads as block-kind-reads
+use Rattle.tree.proofs.records.block_op.Reads as block-op-reads
 use Rattle.tree.proofs.records.copy_const.Reads as copy-const-reads
 use Rattle.tree.proofs.records.put_cell_class.Reads as put-cell-class-reads
 use Rattle.tree.proofs.records.put_column.Reads as put-column-reads
@@ -77,12 +81,16 @@ pub +write-block+write-d+write-limb-spec : {M : Type 1} → statement M
       pushed-reads.Learnt,
       block-kind-reads.Asked,
       block-kind-reads.Learnt,
+      block-op-reads.Asked,
+      block-op-reads.Learnt,
       put-rec-reads.Asked,
       put-rec-reads.Learnt,
       table-recs-reads.Asked,
       table-recs-reads.Learnt,
       write-d-below t,
       write-d.Post,
+      fold-type-reads.Asked,
+      fold-type-reads.Learnt,
     )
     (write-block-at t)
     write-block.Post
@@ -96,41 +104,51 @@ pub +write-block+write-d+write-limb-spec : {M : Type 1} → statement M
     (λ c κs. search needs)
     -- block-kind-requires
     (λ c κs. search needs)
+    -- block-op-requires
+    (λ c κs. op-small _ _ _ _ (c .before .before .before .before .before .before .before .pre .1 .0 .1))
     -- cast-put-rec
-    (λ c. let h = block-few _ _ _ _ _ _ _ _ (c .before .before .before .before .before .before .before .before .pre .1 .0 .0 .ready) _ _ (c .before .before .before .before .before .before .before .before .pre .1 .0 .1) in search needs)
+    (λ c. let h = block-few _ _ _ _ _ _ _ _ (c .before .before .before .before .before .before .before .before .before .pre .1 .0 .0 .ready) _ _ (c .before .before .before .before .before .before .before .before .before .pre .1 .0 .1) in search needs)
     -- put-rec-requires
-    (λ c κs. room-some _ (c .before .before .before .before .before .before .before .before .pre .1 .1))
+    (λ c κs. room-some _ (c .before .before .before .before .before .before .before .before .before .pre .1 .1))
     -- table-recs-requires
-    (λ c κs. tables-ask _ _ _ _ _ _ _ _ (c .before .before .before .before .before .before .before .before .before .before .before .before .pre .1 .0 .0) (c .before .before .before .before .before .before .before .before .before .before .before .before .pre .1 .1) _ _ (c .before .before .before .before .before .before .before .before .before .before .before .before .pre .1 .0 .1) _ (c .before .before .before .before .before .before .before .before .open-block .ensures) _ (c .before .before .before .before .before .before .pushed .ensures) _ (c .before .before .before .before .before .block-kind .ensures) (c .before .before .before .put-rec .ensures))
+    (λ c κs. tables-ask _ _ _ _ _ _ _ _ (c .before .before .before .before .before .before .before .before .before .before .before .before .before .pre .1 .0 .0) (c .before .before .before .before .before .before .before .before .before .before .before .before .before .pre .1 .1) _ _ (c .before .before .before .before .before .before .before .before .before .before .before .before .before .pre .1 .0 .1) _ (c .before .before .before .before .before .before .before .before .before .open-block .ensures) _ (c .before .before .before .before .before .before .before .pushed .ensures) _ _ (c .before .before .before .before .before .before .block-kind .ensures) (c .before .before .before .before .before .block-op .ensures) (c .before .before .before .put-rec .ensures))
     -- add-write-d
-    (λ c. let h = block-next _ _ _ _ _ _ _ _ (c .before .before .before .before .before .before .before .before .before .before .before .before .before .before .before .pre .1 .0 .0 .ready) _ _ (c .before .before .before .before .before .before .before .before .before .before .before .before .before .before .before .pre .1 .0 .1) in omega arith)
+    (λ c. let h = block-next _ _ _ _ _ _ _ _ (c .before .before .before .before .before .before .before .before .before .before .before .before .before .before .before .before .pre .1 .0 .0 .ready) _ _ (c .before .before .before .before .before .before .before .before .before .before .before .before .before .before .before .before .pre .1 .0 .1) in omega arith)
     -- add-write-d-2
-    (λ c. let h = push-room _ _ _ _ _ _ _ _ (c .before .before .before .before .before .before .before .before .before .before .before .before .before .before .before .pre .1 .0 .0 .ready) in omega arith)
+    (λ c. let h = push-room _ _ _ _ _ _ _ _ (c .before .before .before .before .before .before .before .before .before .before .before .before .before .before .before .before .pre .1 .0 .0 .ready) in omega arith)
     -- write-d-requires
-    (λ c κs. (omega (arith, c .before .before .before .before .before .before .before .before .before .before .before .before .before .before .before .before .pre .0, c .before .before .before .before .before .before .before .before .before .before .before .before .before .before .before .before .pre .1 .0 .0 .ready .left), where-asks _ _ _ _ _ _ _ _ (c .before .before .before .before .before .before .before .before .before .before .before .before .before .before .before .before .pre .1 .0 .0) (c .before .before .before .before .before .before .before .before .before .before .before .before .before .before .before .before .pre .1 .1) _ _ (c .before .before .before .before .before .before .before .before .before .before .before .before .before .before .before .before .pre .1 .0 .1) _ (c .before .before .before .before .before .before .before .before .before .before .before .before .open-block .ensures) _ (c .before .before .before .before .before .before .before .before .before .before .pushed .ensures) _ (c .before .before .before .before .before .before .before .before .before .block-kind .ensures) (c .before .before .before .before .before .before .before .put-rec .ensures) (c .before .before .before .table-recs .ensures)))
+    (λ c κs. (omega (arith, c .before .before .before .before .before .before .before .before .before .before .before .before .before .before .before .before .before .pre .0, c .before .before .before .before .before .before .before .before .before .before .before .before .before .before .before .before .before .pre .1 .0 .0 .ready .left), where-asks _ _ _ _ _ _ _ _ (c .before .before .before .before .before .before .before .before .before .before .before .before .before .before .before .before .before .pre .1 .0 .0) (c .before .before .before .before .before .before .before .before .before .before .before .before .before .before .before .before .before .pre .1 .1) _ _ (c .before .before .before .before .before .before .before .before .before .before .before .before .before .before .before .before .before .pre .1 .0 .1) _ (c .before .before .before .before .before .before .before .before .before .before .before .before .before .open-block .ensures) _ (c .before .before .before .before .before .before .before .before .before .before .before .pushed .ensures) _ _ (c .before .before .before .before .before .before .before .before .before .before .block-kind .ensures) (c .before .before .before .before .before .before .before .before .before .block-op .ensures) (c .before .before .before .before .before .before .before .put-rec .ensures) (c .before .before .before .table-recs .ensures)))
+    -- enum-known-asked
+    (λ c. search needs)
+    -- fold-type-requires
+    (λ c κs. search needs)
+    -- enum-told
+    (λ c. search needs)
     -- add-write-d-3
-    (λ c. let h = push-room _ _ _ _ _ _ _ _ (c .before .before .before .before .before .before .before .before .before .before .before .before .before .before .before .before .before .before .before .before .pre .1 .0 .0 .ready) in omega arith)
+    (λ c. let h = push-room _ _ _ _ _ _ _ _ (c .before .before .before .before .before .before .before .before .before .before .before .before .before .before .before .before .before .before .before .before .before .before .pre .1 .0 .0 .ready) in omega arith)
     -- write-d-requires-2
-    (λ c κs. (omega (arith, c .before .before .before .before .before .before .before .before .before .before .before .before .before .before .before .before .before .before .before .before .before .pre .0, c .before .before .before .before .before .before .before .before .before .before .before .before .before .before .before .before .before .before .before .before .before .pre .1 .0 .0 .ready .left), single-asks _ _ _ _ _ _ _ _ (c .before .before .before .before .before .before .before .before .before .before .before .before .before .before .before .before .before .before .before .before .before .pre .1 .0 .0) (c .before .before .before .before .before .before .before .before .before .before .before .before .before .before .before .before .before .before .before .before .before .pre .1 .1) _ _ (c .before .before .before .before .before .before .before .before .before .before .before .before .before .before .before .before .before .before .before .before .before .pre .1 .0 .1) _ (c .before .before .before .before .before .before .before .before .before .before .before .before .before .before .before .before .before .open-block .ensures) _ (c .before .before .before .before .before .before .before .before .before .before .before .before .before .before .before .pushed .ensures) _ (c .before .before .before .before .before .before .before .before .before .before .before .before .before .before .block-kind .ensures) (c .before .before .before .before .before .before .before .before .before .before .before .before .put-rec .ensures) (c .before .before .before .before .before .before .before .before .table-recs .ensures) (c .before .before .before .before .write-d .ensures .0) (c .before .before .before .before .write-d .ensures .1) (c .before .if1 .taken)))
+    (λ c κs. (omega (arith, c .before .before .before .before .before .before .before .before .before .before .before .before .before .before .before .before .before .before .before .before .before .before .before .pre .0, c .before .before .before .before .before .before .before .before .before .before .before .before .before .before .before .before .before .before .before .before .before .before .before .pre .1 .0 .0 .ready .left), single-asks _ _ _ _ _ _ _ _ (c .before .before .before .before .before .before .before .before .before .before .before .before .before .before .before .before .before .before .before .before .before .before .before .pre .1 .0 .0) (c .before .before .before .before .before .before .before .before .before .before .before .before .before .before .before .before .before .before .before .before .before .before .before .pre .1 .1) _ _ (c .before .before .before .before .before .before .before .before .before .before .before .before .before .before .before .before .before .before .before .before .before .before .before .pre .1 .0 .1) _ (c .before .before .before .before .before .before .before .before .before .before .before .before .before .before .before .before .before .before .before .open-block .ensures) _ (c .before .before .before .before .before .before .before .before .before .before .before .before .before .before .before .before .before .pushed .ensures) _ _ (c .before .before .before .before .before .before .before .before .before .before .before .before .before .before .before .before .block-kind .ensures) (c .before .before .before .before .before .before .before .before .before .before .before .before .before .before .before .block-op .ensures) (c .before .before .before .before .before .before .before .before .before .before .before .before .before .put-rec .ensures) (c .before .before .before .before .before .before .before .before .before .table-recs .ensures) (c .before .before .before .before .before .write-d .result) (c .before .before .before .before .before .write-d .ensures .0) (c .before .before .before .before .before .write-d .ensures .1 .0) (c .before .enum-told .given .1)))
     -- same-length
-    (λ c. kept (c .before .before .write-d2 .ensures .1) ∙ kept (c .before .before .before .before .before .before .before .write-d .ensures .1) ∙ kept (c .before .before .before .before .before .before .before .before .before .before .before .table-recs .ensures) ∙ kept (c .before .before .before .before .before .before .before .before .before .before .before .before .before .before .before .put-rec .ensures))
+    (λ c. kept (c .before .before .before .before .before .before .write-d .ensures .1 .0) ∙ kept (c .before .before .before .before .before .before .before .before .before .before .table-recs .ensures) ∙ kept (c .before .before .before .before .before .before .before .before .before .before .before .before .before .before .put-rec .ensures))
     -- returns
-    (λ c. single-done _ _ _ _ _ _ _ _ (c .before .before .before .before .before .before .before .before .before .before .before .before .before .before .before .before .before .before .before .before .before .before .before .before .pre .1 .0 .0) (c .before .before .before .before .before .before .before .before .before .before .before .before .before .before .before .before .before .before .before .before .before .before .before .before .pre .1 .1) _ _ (c .before .before .before .before .before .before .before .before .before .before .before .before .before .before .before .before .before .before .before .before .before .before .before .before .pre .1 .0 .1) _ (c .before .before .before .before .before .before .before .before .before .before .before .before .before .before .before .before .before .before .before .before .open-block .ensures) _ (c .before .before .before .before .before .before .before .before .before .before .before .before .before .before .before .before .before .before .pushed .ensures) _ (c .before .before .before .before .before .before .before .before .before .before .before .before .before .before .before .before .before .block-kind .ensures) (c .before .before .before .before .before .before .before .before .before .before .before .before .before .before .before .put-rec .ensures) (c .before .before .before .before .before .before .before .before .before .before .before .table-recs .ensures) (c .before .before .before .before .before .before .before .write-d .ensures .0) (c .before .before .before .before .before .before .before .write-d .ensures .1) (c .before .before .before .before .if1 .taken) (c .before .before .write-d2 .ensures .0) (c .before .before .write-d2 .ensures .1))
+    (λ c. exists-done _ _ _ _ _ _ _ _ (c .before .before .before .before .before .before .before .before .before .before .before .before .before .before .before .before .before .before .before .before .before .before .before .before .pre .1 .0 .0) (c .before .before .before .before .before .before .before .before .before .before .before .before .before .before .before .before .before .before .before .before .before .before .before .before .pre .1 .1) _ _ (c .before .before .before .before .before .before .before .before .before .before .before .before .before .before .before .before .before .before .before .before .before .before .before .before .pre .1 .0 .1) _ (c .before .before .before .before .before .before .before .before .before .before .before .before .before .before .before .before .before .before .before .before .open-block .ensures) _ (c .before .before .before .before .before .before .before .before .before .before .before .before .before .before .before .before .before .before .pushed .ensures) _ _ (c .before .before .before .before .before .before .before .before .before .before .before .before .before .before .before .before .before .block-kind .ensures) (c .before .before .before .before .before .before .before .before .before .before .before .before .before .before .before .before .block-op .ensures) (c .before .before .before .before .before .before .before .before .before .before .before .before .before .before .put-rec .ensures) (c .before .before .before .before .before .before .before .before .before .before .table-recs .ensures) (c .before .before .before .before .before .before .write-d .result) (c .before .before .before .before .before .before .write-d .ensures .0) (c .before .before .before .before .before .before .write-d .ensures .1 .0) (c .before .before .asked .given .1) (c .fold-type .ensures))
     -- same-length-2
-    (λ c. kept (c .before .before .before .write-d .ensures .1) ∙ kept (c .before .before .before .before .before .before .before .table-recs .ensures) ∙ kept (c .before .before .before .before .before .before .before .before .before .before .before .put-rec .ensures))
+    (λ c. kept (c .before .before .write-d2 .ensures .1 .0) ∙ kept (c .before .before .before .before .before .before .before .before .write-d .ensures .1 .0) ∙ kept (c .before .before .before .before .before .before .before .before .before .before .before .before .table-recs .ensures) ∙ kept (c .before .before .before .before .before .before .before .before .before .before .before .before .before .before .before .before .put-rec .ensures))
     -- returns-2
-    (λ c. exists-done _ _ _ _ _ _ _ _ (c .before .before .before .before .before .before .before .before .before .before .before .before .before .before .before .before .before .before .before .before .pre .1 .0 .0) (c .before .before .before .before .before .before .before .before .before .before .before .before .before .before .before .before .before .before .before .before .pre .1 .1) _ _ (c .before .before .before .before .before .before .before .before .before .before .before .before .before .before .before .before .before .before .before .before .pre .1 .0 .1) _ (c .before .before .before .before .before .before .before .before .before .before .before .before .before .before .before .before .open-block .ensures) _ (c .before .before .before .before .before .before .before .before .before .before .before .before .before .before .pushed .ensures) _ (c .before .before .before .before .before .before .before .before .before .before .before .before .before .block-kind .ensures) (c .before .before .before .before .before .before .before .before .before .before .before .put-rec .ensures) (c .before .before .before .before .before .before .before .table-recs .ensures) (c .before .before .before .write-d .ensures .0) (c .before .before .before .write-d .ensures .1) (c .if1 .left)))
+    (λ c. single-done _ _ _ _ _ _ _ _ (c .before .before .before .before .before .before .before .before .before .before .before .before .before .before .before .before .before .before .before .before .before .before .before .before .before .before .pre .1 .0 .0) (c .before .before .before .before .before .before .before .before .before .before .before .before .before .before .before .before .before .before .before .before .before .before .before .before .before .before .pre .1 .1) _ _ (c .before .before .before .before .before .before .before .before .before .before .before .before .before .before .before .before .before .before .before .before .before .before .before .before .before .before .pre .1 .0 .1) _ (c .before .before .before .before .before .before .before .before .before .before .before .before .before .before .before .before .before .before .before .before .before .before .open-block .ensures) _ (c .before .before .before .before .before .before .before .before .before .before .before .before .before .before .before .before .before .before .before .before .pushed .ensures) _ _ (c .before .before .before .before .before .before .before .before .before .before .before .before .before .before .before .before .before .before .before .block-kind .ensures) (c .before .before .before .before .before .before .before .before .before .before .before .before .before .before .before .before .before .before .block-op .ensures) (c .before .before .before .before .before .before .before .before .before .before .before .before .before .before .before .before .put-rec .ensures) (c .before .before .before .before .before .before .before .before .before .before .before .before .table-recs .ensures) (c .before .before .before .before .before .before .before .before .write-d .result) (c .before .before .before .before .before .before .before .before .write-d .ensures .0) (c .before .before .before .before .before .before .before .before .write-d .ensures .1 .0) (c .before .before .before .before .enum-told .given .1) (c .before .before .write-d2 .ensures .0) (c .before .before .write-d2 .ensures .1 .0) (c .before .before .write-d2 .ensures .1 .1)))
     (λ t. write-d-lts.spec (
       node-at-reads.Asked,
       node-at-reads.Learnt,
       copy-const-reads.Asked,
       copy-const-reads.Learnt,
-      digits-at-reads.Asked,
-      digits-at-reads.Learnt,
-      put-rec-reads.Asked,
-      put-rec-reads.Learnt,
       write-d-below t,
       write-d.Post,
+      binop-type-reads.Asked,
+      binop-type-reads.Learnt,
+      digits-of-reads.Asked,
+      digits-of-reads.Learnt,
+      put-rec-reads.Asked,
+      put-rec-reads.Learnt,
       type-at-reads.Asked,
       type-at-reads.Learnt,
       write-limb-below t,
@@ -141,6 +159,8 @@ pub +write-block+write-d+write-limb-spec : {M : Type 1} → statement M
       find-reads.Learnt,
       put-column-reads.Asked,
       put-column-reads.Learnt,
+      found-type-reads.Asked,
+      found-type-reads.Learnt,
       put-cell-class-reads.Asked,
       put-cell-class-reads.Learnt,
       local-at-reads.Asked,
@@ -156,56 +176,62 @@ pub +write-block+write-d+write-limb-spec : {M : Type 1} → statement M
     (λ c. search needs)
     -- node-at-requires
     (λ c κs. search needs)
-    -- enum-told
+    -- enum-known-ty
     (λ c. search needs)
     -- copy-const-requires
-    (λ c κs. (search needs, const-asks _ _ _ _ _ _ _ _ (c .before .before .before .before .before .before .before .pre .1 .0) _ (c .before .before .before .node-at .ensures) (c .before .before .before .before .before .before .before .pre .1 .1) (c .before .enum-told .given .1)))
+    (λ c κs. (search needs, const-asks _ _ _ _ _ _ _ _ (c .before .before .before .before .before .before .before .before .pre .1 .0) _ (c .before .before .before .before .node-at .ensures) (c .before .before .before .before .before .before .before .before .pre .1 .1) (c .before .before .ty .given .1)))
     -- enum-known-op
     (λ c. search needs)
-    -- digits-at-requires
-    (λ c κs. c .before .before .before .before .before .before .before .pre .1 .0)
-    -- put-rec-requires
-    (λ c κs. room-some _ (c .before .before .before .before .before .before .before .before .before .pre .1 .1))
+    -- add-write-d
+    (λ c. let h = room-some _ (c .before .before .before .before .before .before .before .before .pre .1 .1) in search needs)
     -- write-d-requires
-    (λ c κs. (omega (arith, c .before .before .before .before .before .before .before .before .before .before .before .before .before .pre .0, c .before .before .before .before .before .before .before .before .before .before .before .before .before .pre .1 .0 .ready .left), left-asks _ _ _ _ _ _ _ _ (c .before .before .before .before .before .before .before .before .before .before .before .before .before .pre .1 .0) _ (c .before .before .before .before .before .before .before .before .before .node-at .ensures) (c .before .before .before .before .before .before .before .before .before .before .before .before .before .pre .1 .1) (c .before .before .before .before .before .before .before .op .given .1) (c .before .before .before .before .before .digits-at .ensures) (c .before .before .before .put-rec .ensures)))
+    (λ c κs. (omega (arith, c .before .before .before .before .before .before .before .before .pre .0, c .before .before .before .before .before .before .before .before .pre .1 .0 .ready .left), left-asks _ _ _ _ _ _ _ _ (c .before .before .before .before .before .before .before .before .pre .1 .0) _ (c .before .before .before .before .node-at .ensures) (c .before .before .before .before .before .before .before .before .pre .1 .1) (c .before .before .op .given .1)))
     -- write-d-requires-2
-    (λ c κs. (omega (arith, c .before .before .before .before .before .before .before .before .before .before .before .before .before .before .before .before .before .pre .0, c .before .before .before .before .before .before .before .before .before .before .before .before .before .before .before .before .before .pre .1 .0 .ready .left), right-asks _ _ _ _ _ _ _ _ (c .before .before .before .before .before .before .before .before .before .before .before .before .before .before .before .before .before .pre .1 .0) _ (c .before .before .before .before .before .before .before .before .before .before .before .before .before .node-at .ensures) (c .before .before .before .before .before .before .before .before .before .before .before .before .before .before .before .before .before .pre .1 .1) (c .before .before .before .before .before .before .before .before .before .before .before .op .given .1) (c .before .before .before .before .before .before .before .before .before .digits-at .ensures) (c .before .before .before .before .before .before .before .put-rec .ensures) (c .before .before .before .write-d .ensures .0) (c .before .before .before .write-d .ensures .1)))
-    -- enum-told-2
+    (λ c κs. (omega (arith, c .before .before .before .before .before .before .before .before .before .before .before .before .pre .0, c .before .before .before .before .before .before .before .before .before .before .before .before .pre .1 .0 .ready .left), right-asks _ _ _ _ _ _ _ _ (c .before .before .before .before .before .before .before .before .before .before .before .before .pre .1 .0) _ (c .before .before .before .before .before .before .before .before .node-at .ensures) (c .before .before .before .before .before .before .before .before .before .before .before .before .pre .1 .1) (c .before .before .before .before .before .before .op .given .1) (c .before .before .before .write-d .result) (c .before .before .before .write-d .ensures .0) (c .before .before .before .write-d .ensures .1 .0)))
+    -- binop-type-requires
+    (λ c κs. search needs)
+    -- digits-of-requires
+    (λ c κs. search needs)
+    -- put-rec-requires
+    (λ c κs. binop-asks _ _ _ _ _ _ _ _ (c .before .before .before .before .before .before .before .before .before .before .before .before .before .before .before .before .before .before .pre .1 .0) _ (c .before .before .before .before .before .before .before .before .before .before .before .before .before .before .node-at .ensures) (c .before .before .before .before .before .before .before .before .before .before .before .before .before .before .before .before .before .before .pre .1 .1) (c .before .before .before .before .before .before .before .before .before .before .before .before .op .given .1) (c .before .before .before .before .before .before .before .before .before .write-d .result) (c .before .before .before .before .before .before .before .before .before .write-d .ensures .0) (c .before .before .before .before .before .before .before .before .before .write-d .ensures .1 .0) (c .before .before .before .before .before .write-d2 .result) (c .before .before .before .before .before .write-d2 .ensures .0) (c .before .before .before .before .before .write-d2 .ensures .1 .0))
+    -- enum-told
     (λ c. search needs)
     -- put-rec-requires-2
     (λ c κs. room-some _ (c .before .before .before .before .before .before .before .pre .1 .1))
     -- write-d-requires-3
-    (λ c κs. (omega (arith, c .before .before .before .before .before .before .before .before .before .before .before .pre .0, c .before .before .before .before .before .before .before .before .before .before .before .pre .1 .0 .ready .left), not-asks _ _ _ _ _ _ _ _ (c .before .before .before .before .before .before .before .before .before .before .before .pre .1 .0) _ (c .before .before .before .before .before .before .before .node-at .ensures) (c .before .before .before .before .before .before .before .before .before .before .before .pre .1 .1) (c .before .before .before .before .before .enum-told2 .given .1) (c .before .before .before .put-rec2 .ensures)))
-    -- enum-told-3
+    (λ c κs. (omega (arith, c .before .before .before .before .before .before .before .before .before .before .before .pre .0, c .before .before .before .before .before .before .before .before .before .before .before .pre .1 .0 .ready .left), not-asks _ _ _ _ _ _ _ _ (c .before .before .before .before .before .before .before .before .before .before .before .pre .1 .0) _ (c .before .before .before .before .before .before .before .node-at .ensures) (c .before .before .before .before .before .before .before .before .before .before .before .pre .1 .1) (c .before .before .before .before .before .enum-told .given .1) (c .before .before .before .put-rec2 .ensures)))
+    -- enum-told-2
     (λ c. search needs)
     -- type-at-requires
     (λ c κs. c .before .before .before .before .before .before .pre .1 .0)
     -- put-rec-requires-3
     (λ c κs. room-some _ (c .before .before .before .before .before .before .before .before .pre .1 .1))
     -- write-d-requires-4
-    (λ c κs. (omega (arith, c .before .before .before .before .before .before .before .before .before .before .before .before .pre .0, c .before .before .before .before .before .before .before .before .before .before .before .before .pre .1 .0 .ready .left), test-asks _ _ _ _ _ _ _ _ (c .before .before .before .before .before .before .before .before .before .before .before .before .pre .1 .0) _ (c .before .before .before .before .before .before .before .before .node-at .ensures) (c .before .before .before .before .before .before .before .before .before .before .before .before .pre .1 .1) (c .before .before .before .before .before .before .enum-told3 .given .1) (c .before .before .before .before .before .type-at .ensures) (c .before .before .before .put-rec3 .ensures)))
+    (λ c κs. (omega (arith, c .before .before .before .before .before .before .before .before .before .before .before .before .pre .0, c .before .before .before .before .before .before .before .before .before .before .before .before .pre .1 .0 .ready .left), test-asks _ _ _ _ _ _ _ _ (c .before .before .before .before .before .before .before .before .before .before .before .before .pre .1 .0) _ (c .before .before .before .before .before .before .before .before .node-at .ensures) (c .before .before .before .before .before .before .before .before .before .before .before .before .pre .1 .1) (c .before .before .before .before .before .before .enum-told2 .given .1) (c .before .before .before .before .before .type-at .ensures) (c .before .before .before .put-rec3 .ensures)))
     -- write-limb-requires
-    (λ c κs. (omega (arith, c .before .before .before .before .before .before .before .before .before .before .before .before .before .before .before .before .pre .0, c .before .before .before .before .before .before .before .before .before .before .before .before .before .before .before .before .pre .1 .0 .ready .left), yes-asks _ _ _ _ _ _ _ _ (c .before .before .before .before .before .before .before .before .before .before .before .before .before .before .before .before .pre .1 .0) _ (c .before .before .before .before .before .before .before .before .before .before .before .before .node-at .ensures) (c .before .before .before .before .before .before .before .before .before .before .before .before .before .before .before .before .pre .1 .1) (c .before .before .before .before .before .before .before .before .before .before .enum-told3 .given .1) (c .before .before .before .before .before .before .before .before .before .type-at .ensures) (c .before .before .before .before .before .before .before .put-rec3 .ensures) (c .before .before .before .write-d4 .ensures .0) (c .before .before .before .write-d4 .ensures .1)))
+    (λ c κs. (omega (arith, c .before .before .before .before .before .before .before .before .before .before .before .before .before .before .before .before .pre .0, c .before .before .before .before .before .before .before .before .before .before .before .before .before .before .before .before .pre .1 .0 .ready .left), yes-asks _ _ _ _ _ _ _ _ (c .before .before .before .before .before .before .before .before .before .before .before .before .before .before .before .before .pre .1 .0) _ (c .before .before .before .before .before .before .before .before .before .before .before .before .node-at .ensures) (c .before .before .before .before .before .before .before .before .before .before .before .before .before .before .before .before .pre .1 .1) (c .before .before .before .before .before .before .before .before .before .before .enum-told2 .given .1) (c .before .before .before .before .before .before .before .before .before .type-at .ensures) (c .before .before .before .before .before .before .before .put-rec3 .ensures) (c .before .before .before .write-d4 .result) (c .before .before .before .write-d4 .ensures .0) (c .before .before .before .write-d4 .ensures .1 .0)))
     -- write-limb-requires-2
-    (λ c κs. (omega (arith, c .before .before .before .before .before .before .before .before .before .before .before .before .before .before .before .before .before .before .before .before .pre .0, c .before .before .before .before .before .before .before .before .before .before .before .before .before .before .before .before .before .before .before .before .pre .1 .0 .ready .left), no-asks _ _ _ _ _ _ _ _ (c .before .before .before .before .before .before .before .before .before .before .before .before .before .before .before .before .before .before .before .before .pre .1 .0) _ (c .before .before .before .before .before .before .before .before .before .before .before .before .before .before .before .before .node-at .ensures) (c .before .before .before .before .before .before .before .before .before .before .before .before .before .before .before .before .before .before .before .before .pre .1 .1) (c .before .before .before .before .before .before .before .before .before .before .before .before .before .before .enum-told3 .given .1) (c .before .before .before .before .before .before .before .before .before .before .before .before .before .type-at .ensures) (c .before .before .before .before .before .before .before .before .before .before .before .put-rec3 .ensures) (c .before .before .before .before .before .before .before .write-d4 .ensures .0) (c .before .before .before .before .before .before .before .write-d4 .ensures .1) (c .before .before .before .write-limb .ensures .0) (c .before .before .before .write-limb .ensures .1)))
+    (λ c κs. (omega (arith, c .before .before .before .before .before .before .before .before .before .before .before .before .before .before .before .before .before .before .before .before .pre .0, c .before .before .before .before .before .before .before .before .before .before .before .before .before .before .before .before .before .before .before .before .pre .1 .0 .ready .left), no-asks _ _ _ _ _ _ _ _ (c .before .before .before .before .before .before .before .before .before .before .before .before .before .before .before .before .before .before .before .before .pre .1 .0) _ (c .before .before .before .before .before .before .before .before .before .before .before .before .before .before .before .before .node-at .ensures) (c .before .before .before .before .before .before .before .before .before .before .before .before .before .before .before .before .before .before .before .before .pre .1 .1) (c .before .before .before .before .before .before .before .before .before .before .before .before .before .before .enum-told2 .given .1) (c .before .before .before .before .before .before .before .before .before .before .before .before .before .type-at .ensures) (c .before .before .before .before .before .before .before .before .before .before .before .put-rec3 .ensures) (c .before .before .before .before .before .before .before .write-d4 .result) (c .before .before .before .before .before .before .before .write-d4 .ensures .0) (c .before .before .before .before .before .before .before .write-d4 .ensures .1 .0) (c .before .before .before .write-limb .result) (c .before .before .before .write-limb .ensures .0) (c .before .before .before .write-limb .ensures .1 .0)))
     -- enum-known-a
     (λ c. search needs)
     -- cast-write-block
     (λ c. search needs)
     -- write-block-requires
-    (λ c κs. (omega (arith, c .before .before .before .before .before .before .before .before .pre .0), ((c .before .before .before .before .before .before .before .before .pre .1 .0, exists-node _ _ _ _ (c .before .before .before .before .node-at .ensures) (c .before .before .a .given .1)), c .before .before .before .before .before .before .before .before .pre .1 .1)))
+    (λ c κs. (omega (arith, c .before .before .before .before .before .before .before .before .pre .0), ((c .before .before .before .before .before .before .before .before .pre .1 .0, exists-node _ _ _ _ _ (c .before .before .before .before .node-at .ensures) (c .before .before .a .given .1)), c .before .before .before .before .before .before .before .before .pre .1 .1)))
     -- enum-known-a-2
     (λ c. search needs)
     -- cast-write-block-2
     (λ c. search needs)
     -- write-block-requires-2
-    (λ c κs. (omega (arith, c .before .before .before .before .before .before .before .before .pre .0), ((c .before .before .before .before .before .before .before .before .pre .1 .0, single-node _ _ _ _ (c .before .before .before .before .node-at .ensures) (c .before .before .a2 .given .1)), c .before .before .before .before .before .before .before .before .pre .1 .1)))
+    (λ c κs. (omega (arith, c .before .before .before .before .before .before .before .before .pre .0), ((c .before .before .before .before .before .before .before .before .pre .1 .0, single-node _ _ _ _ _ (c .before .before .before .before .node-at .ensures) (c .before .before .a2 .given .1)), c .before .before .before .before .before .before .before .before .pre .1 .1)))
     -- enum-known-name
     (λ c. search needs)
     -- find-requires
     (λ c κs. search needs)
     -- put-column-requires
     (λ c κs. col-asks _ _ _ _ _ _ _ _ (c .before .before .before .before .before .before .before .before .before .pre .1 .0) _ (c .before .before .before .before .before .node-at .ensures) (c .before .before .before .before .before .before .before .before .before .pre .1 .1) (c .before .before .before .name .given .1) _ (c .before .find .ensures))
+    -- found-type-requires
+    (λ c κs. search needs)
     -- enum-known-name-2
     (λ c. search needs)
     -- find-requires-2
@@ -222,58 +248,58 @@ pub +write-block+write-d+write-limb-spec : {M : Type 1} → statement M
     (λ c κs. room-some _ (c .before .before .before .before .before .before .before .before .before .before .pre .1 .1))
     -- write-d-requires-5
     (λ c κs. (omega (arith, c .before .before .before .before .before .before .before .before .before .before .before .before .before .before .pre .0, c .before .before .before .before .before .before .before .before .before .before .before .before .before .before .pre .1 .0 .ready .left), value-asks _ _ _ _ _ _ _ _ (c .before .before .before .before .before .before .before .before .before .before .before .before .before .before .pre .1 .0) _ (c .before .before .before .before .before .before .before .before .before .before .node-at .ensures) (c .before .before .before .before .before .before .before .before .before .before .before .before .before .before .pre .1 .1) (c .before .before .before .before .before .before .before .before .name3 .given .1) _ _ (c .before .before .before .before .before .before .local-at .ensures) (c .before .before .before .before .before .pushed .ensures) (c .before .before .before .put-rec4 .ensures)))
-    -- add-write-d
+    -- add-write-d-2
     (λ c. let h = push-room _ _ _ _ _ _ _ _ (c .before .before .before .before .before .before .before .before .before .before .before .before .before .before .before .before .before .pre .1 .0 .ready) in omega arith)
     -- write-d-requires-6
-    (λ c κs. (omega (arith, c .before .before .before .before .before .before .before .before .before .before .before .before .before .before .before .before .before .before .pre .0, c .before .before .before .before .before .before .before .before .before .before .before .before .before .before .before .before .before .before .pre .1 .0 .ready .left), body-asks _ _ _ _ _ _ _ _ (c .before .before .before .before .before .before .before .before .before .before .before .before .before .before .before .before .before .before .pre .1 .0) _ (c .before .before .before .before .before .before .before .before .before .before .before .before .before .before .node-at .ensures) (c .before .before .before .before .before .before .before .before .before .before .before .before .before .before .before .before .before .before .pre .1 .1) (c .before .before .before .before .before .before .before .before .before .before .before .before .name3 .given .1) _ _ (c .before .before .before .before .before .before .before .before .before .before .local-at .ensures) (c .before .before .before .before .before .before .before .before .before .pushed .ensures) (c .before .before .before .before .before .before .before .put-rec4 .ensures) (c .before .before .before .write-d5 .ensures .0) (c .before .before .before .write-d5 .ensures .1)))
+    (λ c κs. (omega (arith, c .before .before .before .before .before .before .before .before .before .before .before .before .before .before .before .before .before .before .pre .0, c .before .before .before .before .before .before .before .before .before .before .before .before .before .before .before .before .before .before .pre .1 .0 .ready .left), body-asks _ _ _ _ _ _ _ _ (c .before .before .before .before .before .before .before .before .before .before .before .before .before .before .before .before .before .before .pre .1 .0) _ (c .before .before .before .before .before .before .before .before .before .before .before .before .before .before .node-at .ensures) (c .before .before .before .before .before .before .before .before .before .before .before .before .before .before .before .before .before .before .pre .1 .1) (c .before .before .before .before .before .before .before .before .before .before .before .before .name3 .given .1) _ _ (c .before .before .before .before .before .before .before .before .before .before .local-at .ensures) (c .before .before .before .before .before .before .before .before .before .pushed .ensures) (c .before .before .before .before .before .before .before .put-rec4 .ensures) (c .before .before .before .write-d5 .result) (c .before .before .before .write-d5 .ensures .0) (c .before .before .before .write-d5 .ensures .1 .0)))
+    -- enum-told-3
+    (λ c. search needs)
     -- enum-told-4
     (λ c. search needs)
     -- enum-told-5
     (λ c. search needs)
-    -- enum-told-6
-    (λ c. search needs)
     -- same-length
     (λ c. kept (c .before .before .copy-const .ensures))
     -- returns
-    (λ c. const-done _ _ _ _ _ _ _ _ (c .before .before .before .before .before .before .before .before .before .before .pre .1 .0) _ (c .before .before .before .before .before .before .node-at .ensures) (c .before .before .before .before .before .before .before .before .before .before .pre .1 .1) (c .before .before .before .before .enum-told .given .1) (c .before .before .copy-const .ensures))
+    (λ c. const-done _ _ _ _ _ _ _ _ (c .before .before .before .before .before .before .before .before .before .before .before .pre .1 .0) _ (c .before .before .before .before .before .before .before .node-at .ensures) (c .before .before .before .before .before .before .before .before .before .before .before .pre .1 .1) (c .before .before .before .before .before .ty .given .1) (c .before .before .copy-const .ensures))
     -- same-length-2
-    (λ c. kept (c .before .before .write-d2 .ensures .1) ∙ kept (c .before .before .before .before .before .before .write-d .ensures .1) ∙ kept (c .before .before .before .before .before .before .before .before .before .before .put-rec .ensures))
+    (λ c. kept (c .before .before .put-rec .ensures) ∙ kept (c .before .before .before .before .before .before .before .before .write-d2 .ensures .1 .0) ∙ kept (c .before .before .before .before .before .before .before .before .before .before .before .before .write-d .ensures .1 .0))
     -- returns-2
-    (λ c. binop-done _ _ _ _ _ _ _ _ (c .before .before .before .before .before .before .before .before .before .before .before .before .before .before .before .before .before .before .before .before .pre .1 .0) _ (c .before .before .before .before .before .before .before .before .before .before .before .before .before .before .before .before .node-at .ensures) (c .before .before .before .before .before .before .before .before .before .before .before .before .before .before .before .before .before .before .before .before .pre .1 .1) (c .before .before .before .before .before .before .before .before .before .before .before .before .before .before .op .given .1) (c .before .before .before .before .before .before .before .before .before .before .before .before .digits-at .ensures) (c .before .before .before .before .before .before .before .before .before .before .put-rec .ensures) (c .before .before .before .before .before .before .write-d .ensures .0) (c .before .before .before .before .before .before .write-d .ensures .1) (c .before .before .write-d2 .ensures .0) (c .before .before .write-d2 .ensures .1))
+    (λ c. binop-done _ _ _ _ _ _ _ _ (c .before .before .before .before .before .before .before .before .before .before .before .before .before .before .before .before .before .before .before .before .before .pre .1 .0) _ (c .before .before .before .before .before .before .before .before .before .before .before .before .before .before .before .before .before .node-at .ensures) (c .before .before .before .before .before .before .before .before .before .before .before .before .before .before .before .before .before .before .before .before .before .pre .1 .1) (c .before .before .before .before .before .before .before .before .before .before .before .before .before .before .before .op .given .1) (c .before .before .before .before .before .before .before .before .before .before .before .before .write-d .result) (c .before .before .before .before .before .before .before .before .before .before .before .before .write-d .ensures .0) (c .before .before .before .before .before .before .before .before .before .before .before .before .write-d .ensures .1 .0) (c .before .before .before .before .before .before .before .before .write-d2 .result) (c .before .before .before .before .before .before .before .before .write-d2 .ensures .0) (c .before .before .before .before .before .before .before .before .write-d2 .ensures .1 .0) (c .before .before .before .before .before .before .before .before .before .before .before .before .write-d .ensures .1 .1) (c .before .before .before .before .before .before .before .before .write-d2 .ensures .1 .1) (c .before .before .before .before .before .binop-type .ensures) (c .before .before .before .before .digits-of .ensures) (c .before .before .put-rec .ensures))
     -- same-length-3
-    (λ c. kept (c .before .before .write-d3 .ensures .1) ∙ kept (c .before .before .before .before .before .before .put-rec2 .ensures))
+    (λ c. kept (c .before .before .write-d3 .ensures .1 .0) ∙ kept (c .before .before .before .before .before .before .put-rec2 .ensures))
     -- returns-3
-    (λ c. not-done _ _ _ _ _ _ _ _ (c .before .before .before .before .before .before .before .before .before .before .before .before .before .before .pre .1 .0) _ (c .before .before .before .before .before .before .before .before .before .before .node-at .ensures) (c .before .before .before .before .before .before .before .before .before .before .before .before .before .before .pre .1 .1) (c .before .before .before .before .before .before .before .before .enum-told2 .given .1) (c .before .before .before .before .before .before .put-rec2 .ensures) (c .before .before .write-d3 .ensures .0) (c .before .before .write-d3 .ensures .1))
+    (λ c. not-done _ _ _ _ _ _ _ _ (c .before .before .before .before .before .before .before .before .before .before .before .before .before .before .pre .1 .0) _ (c .before .before .before .before .before .before .before .before .before .before .node-at .ensures) (c .before .before .before .before .before .before .before .before .before .before .before .before .before .before .pre .1 .1) (c .before .before .before .before .before .before .before .before .enum-told .given .1) (c .before .before .before .before .before .before .put-rec2 .ensures) (c .before .before .write-d3 .ensures .0) (c .before .before .write-d3 .ensures .1 .0) (c .before .before .write-d3 .ensures .1 .1))
     -- same-length-4
-    (λ c. kept (c .before .before .write-limb2 .ensures .1) ∙ kept (c .before .before .before .before .before .before .write-limb .ensures .1) ∙ kept (c .before .before .before .before .before .before .before .before .before .before .write-d4 .ensures .1) ∙ kept (c .before .before .before .before .before .before .before .before .before .before .before .before .before .before .put-rec3 .ensures))
+    (λ c. kept (c .before .before .write-limb2 .ensures .1 .0) ∙ kept (c .before .before .before .before .before .before .write-limb .ensures .1 .0) ∙ kept (c .before .before .before .before .before .before .before .before .before .before .write-d4 .ensures .1 .0) ∙ kept (c .before .before .before .before .before .before .before .before .before .before .before .before .before .before .put-rec3 .ensures))
     -- returns-4
-    (λ c. if-done _ _ _ _ _ _ _ _ (c .before .before .before .before .before .before .before .before .before .before .before .before .before .before .before .before .before .before .before .before .before .before .before .pre .1 .0) _ (c .before .before .before .before .before .before .before .before .before .before .before .before .before .before .before .before .before .before .before .node-at .ensures) (c .before .before .before .before .before .before .before .before .before .before .before .before .before .before .before .before .before .before .before .before .before .before .before .pre .1 .1) (c .before .before .before .before .before .before .before .before .before .before .before .before .before .before .before .before .before .enum-told3 .given .1) (c .before .before .before .before .before .before .before .before .before .before .before .before .before .before .before .before .type-at .ensures) (c .before .before .before .before .before .before .before .before .before .before .before .before .before .before .put-rec3 .ensures) (c .before .before .before .before .before .before .before .before .before .before .write-d4 .ensures .0) (c .before .before .before .before .before .before .before .before .before .before .write-d4 .ensures .1) (c .before .before .before .before .before .before .write-limb .ensures .0) (c .before .before .before .before .before .before .write-limb .ensures .1) (c .before .before .write-limb2 .ensures .0) (c .before .before .write-limb2 .ensures .1))
+    (λ c. if-done _ _ _ _ _ _ _ _ (c .before .before .before .before .before .before .before .before .before .before .before .before .before .before .before .before .before .before .before .before .before .before .before .pre .1 .0) _ (c .before .before .before .before .before .before .before .before .before .before .before .before .before .before .before .before .before .before .before .node-at .ensures) (c .before .before .before .before .before .before .before .before .before .before .before .before .before .before .before .before .before .before .before .before .before .before .before .pre .1 .1) (c .before .before .before .before .before .before .before .before .before .before .before .before .before .before .before .before .before .enum-told2 .given .1) (c .before .before .before .before .before .before .before .before .before .before .before .before .before .before .before .before .type-at .ensures) (c .before .before .before .before .before .before .before .before .before .before .before .before .before .before .put-rec3 .ensures) (c .before .before .before .before .before .before .before .before .before .before .write-d4 .result) (c .before .before .before .before .before .before .before .before .before .before .write-d4 .ensures .0) (c .before .before .before .before .before .before .before .before .before .before .write-d4 .ensures .1 .0) (c .before .before .before .before .before .before .write-limb .result) (c .before .before .before .before .before .before .write-limb .ensures .0) (c .before .before .before .before .before .before .write-limb .ensures .1 .0) (c .before .before .write-limb2 .result) (c .before .before .write-limb2 .ensures .0) (c .before .before .write-limb2 .ensures .1 .0))
     -- same-length-5
-    (λ c. kept (c .before .before .write-block .ensures .1))
+    (λ c. kept (c .before .before .write-block .ensures .1 .0))
     -- returns-5
     (λ c. c .before .before .write-block .ensures)
     -- same-length-6
-    (λ c. kept (c .before .before .write-block2 .ensures .1))
+    (λ c. kept (c .before .before .write-block2 .ensures .1 .0))
     -- returns-6
     (λ c. c .before .before .write-block2 .ensures)
     -- same-length-7
-    (λ c. kept (c .before .before .put-column .ensures))
+    (λ c. kept (c .before .before .before .put-column .ensures))
     -- returns-7
-    (λ c. col-done _ _ _ _ _ _ _ _ (c .before .before .before .before .before .before .before .before .before .before .before .before .pre .1 .0) _ (c .before .before .before .before .before .before .before .before .node-at .ensures) (c .before .before .before .before .before .before .before .before .before .before .before .before .pre .1 .1) (c .before .before .before .before .before .before .name .given .1) _ (c .before .before .before .before .find .ensures) (c .before .before .put-column .ensures))
+    (λ c. col-done _ _ _ _ _ _ _ _ (c .before .before .before .before .before .before .before .before .before .before .before .before .before .pre .1 .0) _ (c .before .before .before .before .before .before .before .before .before .node-at .ensures) (c .before .before .before .before .before .before .before .before .before .before .before .before .before .pre .1 .1) (c .before .before .before .before .before .before .before .name .given .1) _ (c .before .before .before .before .before .find .ensures) (c .before .before .before .put-column .ensures) (c .found-type .ensures))
     -- same-length-8
     (λ c. kept (c .before .before .put-cell-class .ensures))
     -- returns-8
     (λ c. class-done _ _ _ _ _ _ _ _ (c .before .before .before .before .before .before .before .before .before .before .before .before .pre .1 .0) _ (c .before .before .before .before .before .before .before .before .node-at .ensures) (c .before .before .before .before .before .before .before .before .before .before .before .before .pre .1 .1) (c .before .before .before .before .before .before .name2 .given .1) _ (c .before .before .before .before .find2 .ensures) (c .before .before .put-cell-class .ensures))
     -- same-length-9
-    (λ c. kept (c .before .before .write-d6 .ensures .1) ∙ kept (c .before .before .before .before .before .before .write-d5 .ensures .1) ∙ kept (c .before .before .before .before .before .before .before .before .before .before .put-rec4 .ensures))
+    (λ c. kept (c .before .before .write-d6 .ensures .1 .0) ∙ kept (c .before .before .before .before .before .before .write-d5 .ensures .1 .0) ∙ kept (c .before .before .before .before .before .before .before .before .before .before .put-rec4 .ensures))
     -- returns-9
-    (λ c. let-done _ _ _ _ _ _ _ _ (c .before .before .before .before .before .before .before .before .before .before .before .before .before .before .before .before .before .before .before .before .before .pre .1 .0) _ (c .before .before .before .before .before .before .before .before .before .before .before .before .before .before .before .before .before .node-at .ensures) (c .before .before .before .before .before .before .before .before .before .before .before .before .before .before .before .before .before .before .before .before .before .pre .1 .1) (c .before .before .before .before .before .before .before .before .before .before .before .before .before .before .before .name3 .given .1) _ _ (c .before .before .before .before .before .before .before .before .before .before .before .before .before .local-at .ensures) (c .before .before .before .before .before .before .before .before .before .before .before .before .pushed .ensures) (c .before .before .before .before .before .before .before .before .before .before .put-rec4 .ensures) (c .before .before .before .before .before .before .write-d5 .ensures .0) (c .before .before .before .before .before .before .write-d5 .ensures .1) (c .before .before .write-d6 .ensures .0) (c .before .before .write-d6 .ensures .1))
+    (λ c. let-done _ _ _ _ _ _ _ _ (c .before .before .before .before .before .before .before .before .before .before .before .before .before .before .before .before .before .before .before .before .before .pre .1 .0) _ (c .before .before .before .before .before .before .before .before .before .before .before .before .before .before .before .before .before .node-at .ensures) (c .before .before .before .before .before .before .before .before .before .before .before .before .before .before .before .before .before .before .before .before .before .pre .1 .1) (c .before .before .before .before .before .before .before .before .before .before .before .before .before .before .before .name3 .given .1) _ _ (c .before .before .before .before .before .before .before .before .before .before .before .before .before .local-at .ensures) (c .before .before .before .before .before .before .before .before .before .before .before .before .pushed .ensures) (c .before .before .before .before .before .before .before .before .before .before .put-rec4 .ensures) (c .before .before .before .before .before .before .write-d5 .result) (c .before .before .before .before .before .before .write-d5 .ensures .0) (c .before .before .before .before .before .before .write-d5 .ensures .1 .0) (c .before .before .write-d6 .ensures .0) (c .before .before .write-d6 .ensures .1 .0) (c .before .before .write-d6 .ensures .1 .1))
     -- returns-10
-    (λ c. absurd (no-table _ _ _ _ _ _ _ _ (c .before .before .before .before .before .before .pre .1 .0) _ (c .before .before .node-at .ensures) (c .enum-told4 .given .1)))
+    (λ c. absurd (no-table _ _ _ _ _ _ _ _ (c .before .before .before .before .before .before .pre .1 .0) _ (c .before .before .node-at .ensures) (c .enum-told3 .given .1)))
     -- returns-11
-    (λ c. absurd (no-select _ _ _ _ _ _ _ _ (c .before .before .before .before .before .before .pre .1 .0) _ (c .before .before .node-at .ensures) (c .enum-told5 .given .1)))
+    (λ c. absurd (no-select _ _ _ _ _ _ _ _ (c .before .before .before .before .before .before .pre .1 .0) _ (c .before .before .node-at .ensures) (c .enum-told4 .given .1)))
     -- returns-12
-    (λ c. absurd (no-bad _ _ _ _ _ _ _ _ (c .before .before .before .before .before .before .pre .1 .0) _ (c .before .before .node-at .ensures) (c .enum-told6 .given .1))))
+    (λ c. absurd (no-bad _ _ _ _ _ _ _ _ (c .before .before .before .before .before .before .pre .1 .0) _ (c .before .before .node-at .ensures) (c .enum-told5 .given .1))))
     λ t. write-limb-lts.spec (
       type-at-reads.Asked,
       type-at-reads.Learnt,
@@ -291,6 +317,6 @@ pub +write-block+write-d+write-limb-spec : {M : Type 1} → statement M
     -- write-d-requires
     (λ c κs. (omega (arith, c .before .before .before .before .before .before .before .before .before .pre .0), limb-asks _ _ _ _ _ _ _ _ (c .before .before .before .before .before .before .before .before .before .pre .1 .0) _ _ (c .before .before .before .before .before .type-at .ensures) (c .before .before .before .before .before .before .before .before .before .pre .1 .1 .1) (c .before .before .before .put-conv .ensures)))
     -- same-length
-    (λ c. kept (c .before .before .write-d .ensures .1) ∙ kept (c .before .before .before .before .before .before .put-conv .ensures))
+    (λ c. kept (c .before .before .write-d .ensures .1 .0) ∙ kept (c .before .before .before .before .before .before .put-conv .ensures))
     -- returns
-    (λ c. limb-done _ _ _ _ _ _ _ _ (c .before .before .before .before .before .before .before .before .before .before .before .before .pre .1 .0) _ _ (c .before .before .before .before .before .before .before .before .type-at .ensures) (c .before .before .before .before .before .before .before .before .before .before .before .before .pre .1 .1 .1) (c .before .before .before .before .before .before .put-conv .ensures) (c .before .before .write-d .ensures .0) (c .before .before .write-d .ensures .1))
+    (λ c. limb-done _ _ _ _ _ _ _ _ (c .before .before .before .before .before .before .before .before .before .before .before .before .pre .1 .0) _ _ (c .before .before .before .before .before .before .before .before .type-at .ensures) (c .before .before .before .before .before .before .before .before .before .before .before .before .pre .1 .1 .1) (c .before .before .before .before .before .before .put-conv .ensures) (c .before .before .write-d .ensures .0) (c .before .before .write-d .ensures .1 .0) (c .before .before .write-d .ensures .1 .1))

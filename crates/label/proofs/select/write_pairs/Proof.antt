@@ -35,7 +35,7 @@ write-pairs-spec =
     -- write-d-requires
     (λ c κs. ((accepts-some _ _ _ _ _ _ _ (c .before .loop-test .taken) (c .before .before .loop .inv .there)) .0, front _ (room-as (pairs-some _ _ _ _ _ _ (c .before .loop-test .taken)) (c .before .before .loop .inv .room))))
     -- write-c-requires
-    (λ c κs. ((accepts-some _ _ _ _ _ _ _ (c .before .before .before .before .before .loop-test .taken) (c .before .before .before .before .before .before .loop .inv .there)) .0, front _ (after (c .before .before .before .write-d .ensures .1) (room-as (pairs-some _ _ _ _ _ _ (c .before .before .before .before .before .loop-test .taken)) (c .before .before .before .before .before .before .loop .inv .room)))))
+    (λ c κs. ((accepts-some _ _ _ _ _ _ _ (c .before .before .before .before .before .loop-test .taken) (c .before .before .before .before .before .before .loop .inv .there)) .0, front _ (after (c .before .before .before .write-d .ensures .1 .0) (room-as (pairs-some _ _ _ _ _ _ (c .before .before .before .before .before .loop-test .taken)) (c .before .before .before .before .before .before .loop .inv .room)))))
     -- sub-i
     (λ c. search needs)
     -- loop-less
@@ -43,8 +43,8 @@ write-pairs-spec =
     -- loop-again
     (λ c. record {
       there = accepts-next _ _ _ _ _ _ _ _ (c .before .before .before .before .before .before .before .before .loop-test .taken) (c .before .before .before .before .before .before .before .before .before .loop .inv .there) (c .before .before .before .before .before .before .write-d .ensures .0);
-      room = after (c .before .before .write-c .ensures) (after (c .before .before .before .before .before .before .write-d .ensures .1) (room-as (pairs-next _ _ _ _ _ _ _ (c .before .before .before .before .before .before .before .before .loop-test .taken) (c .before .before .before .before .before .before .write-d .ensures .0)) (c .before .before .before .before .before .before .before .before .before .loop .inv .room)));
-      todo = todo-less (c .before .before .write-c .ensures) (todo-less (c .before .before .before .before .before .before .write-d .ensures .1) (todo-same (pairs-next _ _ _ _ _ _ _ (c .before .before .before .before .before .before .before .before .loop-test .taken) (c .before .before .before .before .before .before .write-d .ensures .0)) (c .before .before .before .before .before .before .before .before .before .loop .inv .todo)));
+      room = after (c .before .before .write-c .ensures) (after (c .before .before .before .before .before .before .write-d .ensures .1 .0) (room-as (pairs-next _ _ _ _ _ _ _ (c .before .before .before .before .before .before .before .before .loop-test .taken) (c .before .before .before .before .before .before .write-d .ensures .0)) (c .before .before .before .before .before .before .before .before .before .loop .inv .room)));
+      todo = todo-less (c .before .before .write-c .ensures) (todo-less (c .before .before .before .before .before .before .write-d .ensures .1 .0) (todo-same (pairs-next _ _ _ _ _ _ _ (c .before .before .before .before .before .before .before .before .loop-test .taken) (c .before .before .before .before .before .before .write-d .ensures .0)) (c .before .before .before .before .before .before .before .before .before .loop .inv .todo)));
     })
     -- same-length
     (λ c. todo-length (c .before .loop .inv .todo))

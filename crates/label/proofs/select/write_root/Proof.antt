@@ -33,8 +33,8 @@ write-root-spec =
     -- write-d-requires
     (λ c κs. (test-there _ _ _ _ (c .before .before .before .before .before .before .before .before .before .before .before .before .before .before .before .before .before .before .before .before .before .before .before .before .before .before .before .pre .0 .0) _ _ (c .before .before .before .before .before .before .before .before .before .before .before .before .before .before .before .before .before .before .before .before .before .before .before .before .before .before .before .pre .0 .1) _ (c .before .before .before .before .before .before .before .before .before .before .before .before .before .before .before .before .before .before .before .before .before .before .before .open-block .ensures), front _ (after (c .before .before .before .write-where-test .ensures) (after (c .before .before .before .before .before .before .before .write-tests .ensures) (after (c .before .before .before .before .before .before .before .before .before .before .before .table-recs .ensures) (after (c .before .before .before .before .before .before .before .before .before .before .before .before .before .before .before .put-rec .ensures) (after (c .before .before .before .before .before .before .before .before .before .before .before .before .before .before .before .before .before .before .before .put-header .ensures) (room-as (file-bytes _ _ _ _ (c .before .before .before .before .before .before .before .before .before .before .before .before .before .before .before .before .before .before .before .before .before .before .before .before .before .before .before .pre .0 .0) _ _ (c .before .before .before .before .before .before .before .before .before .before .before .before .before .before .before .before .before .before .before .before .before .before .before .before .before .before .before .pre .0 .1) _ (c .before .before .before .before .before .before .before .before .before .before .before .before .before .before .before .before .before .before .before .before .before .before .before .open-block .ensures) _ _ (c .before .before .before .before .before .before .before .before .before .before .before .before .before .before .before .before .before .before .before .before .before .before .before .before .before .before .before .pre .1 .0) refl) (c .before .before .before .before .before .before .before .before .before .before .before .before .before .before .before .before .before .before .before .before .before .before .before .before .before .before .before .pre .1 .1)))))))))
     -- write-pairs-requires
-    (λ c κs. (values-there _ _ _ _ (c .before .before .before .before .before .before .before .before .before .before .before .before .before .before .before .before .before .before .before .before .before .before .before .before .before .before .before .before .before .before .before .pre .0 .0) _ _ (c .before .before .before .before .before .before .before .before .before .before .before .before .before .before .before .before .before .before .before .before .before .before .before .before .before .before .before .before .before .before .before .pre .0 .1) _ (c .before .before .before .before .before .before .before .before .before .before .before .before .before .before .before .before .before .before .before .before .before .before .before .before .before .before .before .open-block .ensures) (c .before .before .before .write-d .ensures .0), after (c .before .before .before .write-d .ensures .1) (after (c .before .before .before .before .before .before .before .write-where-test .ensures) (after (c .before .before .before .before .before .before .before .before .before .before .before .write-tests .ensures) (after (c .before .before .before .before .before .before .before .before .before .before .before .before .before .before .before .table-recs .ensures) (after (c .before .before .before .before .before .before .before .before .before .before .before .before .before .before .before .before .before .before .before .put-rec .ensures) (after (c .before .before .before .before .before .before .before .before .before .before .before .before .before .before .before .before .before .before .before .before .before .before .before .put-header .ensures) (room-as (file-bytes _ _ _ _ (c .before .before .before .before .before .before .before .before .before .before .before .before .before .before .before .before .before .before .before .before .before .before .before .before .before .before .before .before .before .before .before .pre .0 .0) _ _ (c .before .before .before .before .before .before .before .before .before .before .before .before .before .before .before .before .before .before .before .before .before .before .before .before .before .before .before .before .before .before .before .pre .0 .1) _ (c .before .before .before .before .before .before .before .before .before .before .before .before .before .before .before .before .before .before .before .before .before .before .before .before .before .before .before .open-block .ensures) _ _ (c .before .before .before .before .before .before .before .before .before .before .before .before .before .before .before .before .before .before .before .before .before .before .before .before .before .before .before .before .before .before .before .pre .1 .0) (c .before .before .before .write-d .ensures .0)) (c .before .before .before .before .before .before .before .before .before .before .before .before .before .before .before .before .before .before .before .before .before .before .before .before .before .before .before .before .before .before .before .pre .1 .1)))))))))
+    (λ c κs. (values-there _ _ _ _ (c .before .before .before .before .before .before .before .before .before .before .before .before .before .before .before .before .before .before .before .before .before .before .before .before .before .before .before .before .before .before .before .pre .0 .0) _ _ (c .before .before .before .before .before .before .before .before .before .before .before .before .before .before .before .before .before .before .before .before .before .before .before .before .before .before .before .before .before .before .before .pre .0 .1) _ (c .before .before .before .before .before .before .before .before .before .before .before .before .before .before .before .before .before .before .before .before .before .before .before .before .before .before .before .open-block .ensures) (c .before .before .before .write-d .ensures .0), after (c .before .before .before .write-d .ensures .1 .0) (after (c .before .before .before .before .before .before .before .write-where-test .ensures) (after (c .before .before .before .before .before .before .before .before .before .before .before .write-tests .ensures) (after (c .before .before .before .before .before .before .before .before .before .before .before .before .before .before .before .table-recs .ensures) (after (c .before .before .before .before .before .before .before .before .before .before .before .before .before .before .before .before .before .before .before .put-rec .ensures) (after (c .before .before .before .before .before .before .before .before .before .before .before .before .before .before .before .before .before .before .before .before .before .before .before .put-header .ensures) (room-as (file-bytes _ _ _ _ (c .before .before .before .before .before .before .before .before .before .before .before .before .before .before .before .before .before .before .before .before .before .before .before .before .before .before .before .before .before .before .before .pre .0 .0) _ _ (c .before .before .before .before .before .before .before .before .before .before .before .before .before .before .before .before .before .before .before .before .before .before .before .before .before .before .before .before .before .before .before .pre .0 .1) _ (c .before .before .before .before .before .before .before .before .before .before .before .before .before .before .before .before .before .before .before .before .before .before .before .before .before .before .before .open-block .ensures) _ _ (c .before .before .before .before .before .before .before .before .before .before .before .before .before .before .before .before .before .before .before .before .before .before .before .before .before .before .before .before .before .before .before .pre .1 .0) (c .before .before .before .write-d .ensures .0)) (c .before .before .before .before .before .before .before .before .before .before .before .before .before .before .before .before .before .before .before .before .before .before .before .before .before .before .before .before .before .before .before .pre .1 .1)))))))))
     -- same-length
-    (λ c. kept (c .before .before .write-pairs .ensures) ∙ kept (c .before .before .before .before .before .before .write-d .ensures .1) ∙ kept (c .before .before .before .before .before .before .before .before .before .before .write-where-test .ensures) ∙ kept (c .before .before .before .before .before .before .before .before .before .before .before .before .before .before .write-tests .ensures) ∙ kept (c .before .before .before .before .before .before .before .before .before .before .before .before .before .before .before .before .before .before .table-recs .ensures) ∙ kept (c .before .before .before .before .before .before .before .before .before .before .before .before .before .before .before .before .before .before .before .before .before .before .put-rec .ensures) ∙ kept (c .before .before .before .before .before .before .before .before .before .before .before .before .before .before .before .before .before .before .before .before .before .before .before .before .before .before .put-header .ensures))
+    (λ c. kept (c .before .before .write-pairs .ensures) ∙ kept (c .before .before .before .before .before .before .write-d .ensures .1 .0) ∙ kept (c .before .before .before .before .before .before .before .before .before .before .write-where-test .ensures) ∙ kept (c .before .before .before .before .before .before .before .before .before .before .before .before .before .before .write-tests .ensures) ∙ kept (c .before .before .before .before .before .before .before .before .before .before .before .before .before .before .before .before .before .before .table-recs .ensures) ∙ kept (c .before .before .before .before .before .before .before .before .before .before .before .before .before .before .before .before .before .before .before .before .before .before .put-rec .ensures) ∙ kept (c .before .before .before .before .before .before .before .before .before .before .before .before .before .before .before .before .before .before .before .before .before .before .before .before .before .before .put-header .ensures))
     -- returns
-    (λ c. wrote-as (sym (file-bytes _ _ _ _ (c .before .before .before .before .before .before .before .before .before .before .before .before .before .before .before .before .before .before .before .before .before .before .before .before .before .before .before .before .before .before .before .before .before .before .pre .0 .0) _ _ (c .before .before .before .before .before .before .before .before .before .before .before .before .before .before .before .before .before .before .before .before .before .before .before .before .before .before .before .before .before .before .before .before .before .before .pre .0 .1) _ (c .before .before .before .before .before .before .before .before .before .before .before .before .before .before .before .before .before .before .before .before .before .before .before .before .before .before .before .before .before .before .open-block .ensures) _ _ (c .before .before .before .before .before .before .before .before .before .before .before .before .before .before .before .before .before .before .before .before .before .before .before .before .before .before .before .before .before .before .before .before .before .before .pre .1 .0) (c .before .before .before .before .before .before .write-d .ensures .0))) (then (c .before .before .before .before .before .before .before .before .before .before .before .before .before .before .before .before .before .before .before .before .before .before .before .before .before .before .put-header .ensures) (then (c .before .before .before .before .before .before .before .before .before .before .before .before .before .before .before .before .before .before .before .before .before .before .put-rec .ensures) (then (c .before .before .before .before .before .before .before .before .before .before .before .before .before .before .before .before .before .before .table-recs .ensures) (then (c .before .before .before .before .before .before .before .before .before .before .before .before .before .before .write-tests .ensures) (then (c .before .before .before .before .before .before .before .before .before .before .write-where-test .ensures) (then (c .before .before .before .before .before .before .write-d .ensures .1) (c .before .before .write-pairs .ensures)))))))))
+    (λ c. wrote-as (sym (file-bytes _ _ _ _ (c .before .before .before .before .before .before .before .before .before .before .before .before .before .before .before .before .before .before .before .before .before .before .before .before .before .before .before .before .before .before .before .before .before .before .pre .0 .0) _ _ (c .before .before .before .before .before .before .before .before .before .before .before .before .before .before .before .before .before .before .before .before .before .before .before .before .before .before .before .before .before .before .before .before .before .before .pre .0 .1) _ (c .before .before .before .before .before .before .before .before .before .before .before .before .before .before .before .before .before .before .before .before .before .before .before .before .before .before .before .before .before .before .open-block .ensures) _ _ (c .before .before .before .before .before .before .before .before .before .before .before .before .before .before .before .before .before .before .before .before .before .before .before .before .before .before .before .before .before .before .before .before .before .before .pre .1 .0) (c .before .before .before .before .before .before .write-d .ensures .0))) (then (c .before .before .before .before .before .before .before .before .before .before .before .before .before .before .before .before .before .before .before .before .before .before .before .before .before .before .put-header .ensures) (then (c .before .before .before .before .before .before .before .before .before .before .before .before .before .before .before .before .before .before .before .before .before .before .put-rec .ensures) (then (c .before .before .before .before .before .before .before .before .before .before .before .before .before .before .before .before .before .before .table-recs .ensures) (then (c .before .before .before .before .before .before .before .before .before .before .before .before .before .before .write-tests .ensures) (then (c .before .before .before .before .before .before .before .before .before .before .write-where-test .ensures) (then (c .before .before .before .before .before .before .write-d .ensures .1 .0) (c .before .before .write-pairs .ensures)))))))))

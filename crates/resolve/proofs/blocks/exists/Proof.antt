@@ -21,6 +21,8 @@ exists-spec =
     (λ c κs. search needs)
     -- agg-requires
     (λ c κs. search needs)
+    -- fold-type-requires
+    (λ c κs. search needs)
     -- plus-requires
     (λ c κs. search needs)
     -- plus-requires-2

@@ -6,8 +6,14 @@ use Rattle.resolve.proofs.blocks.with_exists.Statement.{statement}
 use Rattle.resolve.proofs.blocks.with_exists.Tie as tie
 
 pub with-exists-spec : {M : Type 1} → statement M
-with-exists-spec = tie.close (tie.spec  -- kind-of-requires
-    (λ c κs. search needs)  -- exists-requires
-    (λ c κs. search needs)  -- returns
-    (λ c. search blocked)  -- returns-2
+with-exists-spec =
+    tie.close
+    (tie.spec
+    -- kind-of-requires
+    (λ c κs. search needs)
+    -- exists-requires
+    (λ c κs. search needs)
+    -- returns
+    (λ c. search blocked)
+    -- returns-2
     (λ c. search blocked))

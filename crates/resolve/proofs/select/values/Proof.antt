@@ -7,10 +7,10 @@ use Rattle.resolve.proofs.select.values.Statement.{statement}
 use Rattle.resolve.proofs.select.values.Tie as tie
 
 abbrev Inv-loop : tie.InvT-loop
-Inv-loop cat starts view f at t count m₀ j₀ m j = Left cat starts view f t count at j m
+Inv-loop cat starts view f at t count m₀ n₀ j₀ m n j = Left cat starts view f t count at j m n
 
 abbrev μ-loop : tie.MeasureT-loop
-μ-loop cat starts view f at t count m₀ j₀ m j = count - j
+μ-loop cat starts view f at t count m₀ n₀ j₀ m n j = count - j
 
 pub values-spec : {M : Type 1} → statement M
 values-spec =
@@ -28,6 +28,10 @@ values-spec =
     (λ c. search lefts)
     -- enum-known-x
     (λ c. search needs)
+    -- plus-requires
+    (λ c κs. search needs)
+    -- plus-requires-2
+    (λ c κs. search needs)
     -- add-j
     (λ c. search needs)
     -- loop-less

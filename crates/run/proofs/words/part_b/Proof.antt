@@ -17,6 +17,7 @@ part-b-spec =
     (λ c. search fields)
     (λ c κs. search needs)
     (λ c κs. search needs)
+    (λ c κs. search needs)
     (λ c. search needs)
     (λ c κs. search needs)
     (λ c. search fields)

@@ -8,5 +8,11 @@ pub local-scope-spec : {M : Type 1} → statement M
 local-scope-spec =
     tie.close
     (tie.spec
+    -- shape-of-requires
+    (λ c κs. search opens)
+    -- number-of-requires
+    (λ c κs. search opens)
+    -- bound-of-requires
+    (λ c κs. search opens)
     -- returns
     (λ c. search opens))

@@ -48,6 +48,7 @@ use denote.Triple.Walked.{says, needs, Stays, stay-none-slice, stay-none, walkOf
 use denote.Exit.{yes}
 use denote.Triple.Clauses.{ensured, lasts}
 use Rattle.scope.specs.Scopes.{onlyOf, inScope, find}
+use Rattle.scope.specs.Words.{infoIn}
 use Rattle.scope.specs.Table.{openOf, blank, scopesOf, infosOf, foundOf}
 use Rattle.scope.specs.Match.{foundIn, isFound}
 use Rattle.scope.specs.declared.Scope.{Scope}
@@ -106,7 +107,7 @@ nat-cases (suc n) = inr (omega arith)
 
 -- what one entry has for a name: what `in_scope` answers
 abbrev has : List ℕ → ℕ → Scope → ℕ → ℕ → ℕ → Found
-has c n s x t w = foundIn (s .info) (onlyOf (inScope x t w (openOf c n s)))
+has c n s x t w = foundIn (infoIn s) (onlyOf (inScope x t w (openOf c n s)))
 
 module _ {M : Type 1} (𝓤 : URA M) (H : Heap 𝓤) (A : Atoms 𝓤) (mem : Memory → SProp 𝓤) (run : Routine → Fun 𝓤) where
   -- the contracts that the proof cites
