@@ -1,6 +1,7 @@
 // The comparison: the library's two functions and the reference, on the same cases, byte for byte. compare/run builds and runs it.
 //   compare SEED CASES     generated cases, both jobs on each
-//   compare replay FILE    cases of a file, one a line: `T k q treelen cathex viewhex` or `A k q treelen anslen cathex viewhex storehex`, `-` for no bytes
+//   compare replay FILE    cases of a file, one a line: `T k q treelen cathex viewhex` or `A k q treelen anslen cathex viewhex storehex`, `-` for no bytes;
+//                          a line that begins with # is a comment
 // Both sides get copies of their own: files that end where memory ends, buffers of one pattern between guard bytes. A difference is printed as such a line.
 #define _DEFAULT_SOURCE
 #include "../include/wayrinka.h"
@@ -190,8 +191,8 @@ static int64_t work(const uint8_t *tree, int *at, int64_t times) {
     case 7: case 23: case 25: case 26: children = 2; break;
     case 8: case 22: children = 1; break;
     case 9: case 24: children = 3; break;
-    case 10: case 27: tables = get16(r + 2); children = 1; break;
-    case 11: tables = get16(r + 2); children = 2; break;
+    case 10: case 27: case 28: tables = get16(r + 2); children = 1; break;
+    case 11: case 29: case 30: tables = get16(r + 2); children = 2; break;
     case 13: tables = get16(r + 2); children = 1 + 2 * get16(r + 4); break;
     }
     for (; tables > 0; tables--) {
@@ -288,11 +289,12 @@ static int read_case(char *line) {
 
 static uint64_t run_file(const char *name) {
     static char line[400000];
-    uint64_t cases = 0;
+    uint64_t lines = 0, cases = 0;
     FILE *f = fopen(name, "r");
     if (!f) { perror(name); exit(2); }
-    while (fgets(line, sizeof line, f)) {
-        if (!read_case(line)) { fprintf(stderr, "%s: line %llu isn't a case\n", name, (unsigned long long)cases + 1); exit(2); }
+    while (lines++, fgets(line, sizeof line, f)) {
+        if (line[0] == '#') continue;
+        if (!read_case(line)) { fprintf(stderr, "%s: line %llu isn't a case\n", name, (unsigned long long)lines); exit(2); }
         compare(++cases);
     }
     fclose(f);
@@ -310,7 +312,7 @@ static int report(void) {
         missed += miss;
     }
     printf("tree records of accepted views by kind:");
-    for (int i = 1; i < 28; i++) if (i < 14 || i > 16) printf(" %d:%llu", i, (unsigned long long)tree_kinds[i]);
+    for (int i = 1; i < 31; i++) if (i < 14 || i > 16) printf(" %d:%llu", i, (unsigned long long)tree_kinds[i]);
     printf("\nlargest accepted: catalogue %zu records, view %zu records, tree %zu records, store %zu bytes, answer %zu rows", largest.catalogue, largest.view,
            largest.tree, largest.store, largest.rows);
     printf("\nrows of accepted answers: %llu; cells with a value %llu, null %llu, withheld %llu\n", (unsigned long long)rows_given,

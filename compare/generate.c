@@ -350,15 +350,25 @@ static void write_tables(const Scope *s) {
     for (int i = 0; i < s->tables; i++) record(12, 0, wild() ? some_name() : plan.table[s->table[i]].name, 0, 0);
 }
 
-// EXISTS for a kind of 10, VALUE for 11.
+enum { EXISTS = 10, VALUE = 11, COUNT = 28, MAX = 29, MIN = 30 };
+
+// A block of one of these kinds; one digit in every second COUNT, so that a few rows are too many for it.
 static Type block(int kind, int want, int depth, int budget, const Scope *s) {
     Scope inner;
+    int op = kind == COUNT ? 16 * (once_in(2) ? 1 : between(1, 9)) : 0, has_value = kind != EXISTS && kind != COUNT;
     if (!open_tables(&inner, s, once_in(3) ? between(2, 4) : 1)) return leaf(want, s);
-    record(kind, 0, inner.tables, 0, 0);
+    record(kind, op, inner.tables, 0, 0);
     write_tables(&inner);
-    if (kind == 10) { value(BOOL_TAG << 8, depth + 1, budget, &inner); return BOOL_TAG << 8; }
-    if (once_in(4)) record(2, 1, 0, 0, 0); else value(BOOL_TAG << 8, depth + 1, part(&budget, 2), &inner);
-    return value(want, depth + 1, budget, &inner);
+    if (kind != EXISTS && once_in(4)) record(2, 1, 0, 0, 0);
+    else value(BOOL_TAG << 8, depth + 1, has_value ? part(&budget, 2) : budget, &inner);
+    if (has_value) return value(want, depth + 1, budget, &inner);
+    return (Type)(kind == EXISTS ? BOOL_TAG << 8 : FIXED_TAG << 8 | op);
+}
+
+// VALUE, MAX or MIN: the last two where the wanted type has an order, or blindly.
+static int valued_kind(int want) {
+    int tag = tag_of(want), ordered = tag == FIXED_TAG || tag == TIME_TAG || tag == INTERVAL_TAG;
+    return !once_in(3) && (ordered || wild()) ? between(MAX, MIN) : VALUE;
 }
 
 static Type choice(int want, int depth, int budget, const Scope *s) {
@@ -388,7 +398,7 @@ static Type boolean(int depth, int budget, const Scope *s) {
     int any = some_want();
     switch (below(10)) {
     case 0: record(8, 0, 0, 0, 0); value(BOOL_TAG << 8, depth + 1, budget, s); break;
-    case 1: case 2: return block(10, BOOL_TAG << 8, depth, budget, s);
+    case 1: case 2: return block(EXISTS, BOOL_TAG << 8, depth, budget, s);
     case 3: case 4: two(between(5, 6), BOOL_TAG << 8, BOOL_TAG << 8, depth, budget, s, &a, &b); break;
     case 5: case 6: two(between(9, 10), any, once_in(8) ? NULL_TAG << 8 | ANY : tag_of(any) ? any : some_want(), depth, budget, s, &a, &b); break;
     default: any = ordered[below(3)]; two(once_in(4) ? between(9, 10) : tests[below(4)], any, any, depth, budget, s, &a, &b); break;
@@ -401,7 +411,10 @@ static Type operation(int want, int depth, int budget, const Scope *s) {
     Type a, b;
     switch (tag_of(want)) {
     case BOOL_TAG: return boolean(depth, budget, s);
-    case FIXED_TAG: two(between(1, 4), want, want, depth, budget, s, &a, &b); return wider(a, b);
+    case FIXED_TAG:
+        if (once_in(4)) return block(COUNT, want, depth, budget, s);
+        two(between(1, 4), want, want, depth, budget, s, &a, &b);
+        return wider(a, b);
     case TIME_TAG: two(between(1, 2), want, INTERVAL_TAG << 8 | ANY, depth, budget, s, &a, &b); return a;
     case INTERVAL_TAG:
         if (once_in(2)) two(between(1, 2), want, 0, depth, budget, s, &a, &b);
@@ -417,7 +430,7 @@ static Type value(int want, int depth, int budget, const Scope *s) {
     switch (below(10)) {
     case 0: case 1: return choice(want, depth, budget, s);
     case 2: return let(want, depth, budget, s);
-    case 3: return block(11, want, depth, budget, s);
+    case 3: return block(valued_kind(want), want, depth, budget, s);
     default: return tag_of(want) == CLASS_TAG || tag_of(want) == NULL_TAG ? choice(want, depth, budget, s) : operation(want, depth, budget, s);
     }
 }
@@ -472,7 +485,7 @@ static void bush(int depth, int height, const Scope *s) {
 // A bush under conditions, wheres and LETs: its class tree has the data of each of them once more.
 static void spine(int depth, int left, int height, const Scope *s) {
     Scope inner;
-    int kind = once_in(2) ? 0 : (int)below(4);
+    int kind = once_in(2) ? 0 : (int)below(left < 2 ? 4 : 5);
     if (!left) { bush(depth, height, s); return; }
     if (kind > 1 && !open_tables(&inner, s, 1)) kind = 0;
     switch (kind) {
@@ -488,11 +501,18 @@ static void spine(int depth, int left, int height, const Scope *s) {
         spine(depth + 1, left - 1, height, s);
         record(14, 0, inner.name, 0, 0);
         return;
-    default:
-        record(8 + kind, 0, 1, 0, 0);
+    case 2: case 3:
+        record(kind == 2 ? EXISTS : VALUE, 0, 1, 0, 0);
         write_tables(&inner);
         spine(depth + 1, left - 1, height, &inner);
         if (kind == 3) leaf(BOOL_TAG << 8, &inner);
+        return;
+    default:
+        record(7, between(7, 12), 0, 0, 0);
+        record(COUNT, 16, 1, 0, 0);
+        write_tables(&inner);
+        spine(depth + 2, left - 2, height, &inner);
+        constant(FIXED_TAG << 8 | ANY);
     }
 }
 
@@ -557,12 +577,17 @@ static void damage_count(uint8_t *f, size_t *len) {
     put16(f + 6, (uint32_t)n);
 }
 
+// Kinds from 0 to 18, and those of COUNT, MAX and MIN.
+static uint8_t edge_kind(void) { uint32_t kind = below(22); return (uint8_t)(kind < 19 ? kind : COUNT + kind - 19); }
+
+static uint8_t edge_op(void) { return (uint8_t)(once_in(2) ? below(14) : 16 * below(11)); }
+
 static void damage_record(uint8_t *f, size_t len) {
     uint32_t n = (uint32_t)(len / 8 - 1);
     uint8_t *r = f + 8 + 8 * below(n), *other = f + 8 + 8 * below(n), kept[8];
     switch (below(6)) {
-    case 0: r[0] = (uint8_t)(once_in(8) ? next() : below(19)); return;
-    case 1: r[1] = (uint8_t)(once_in(2) ? next() : below(14)); return;
+    case 0: r[0] = once_in(8) ? (uint8_t)next() : edge_kind(); return;
+    case 1: r[1] = once_in(2) ? (uint8_t)next() : edge_op(); return;
     case 2: case 3: put16(r + 2 + 2 * below(3), edge_word()); return;
     case 4: memcpy(r, other, 8); return;
     default: memcpy(kept, r, 8); memcpy(r, other, 8); memcpy(other, kept, 8); return;

@@ -1,7 +1,7 @@
 """What showtree and showanswer print, laid out in words: a tree, an answer with its heads, a refusal with its meaning."""
 import records
 from packing import short, tables_of, value_said
-from records import CHILDREN, OPS, typed
+from records import BLOCK_WORDS, OPS, PARTS, children, typed
 
 MEANING = {
     21: 'not a catalogue: under eight bytes, or a wrong mark, zero byte or version',
@@ -25,7 +25,6 @@ MEANING = {
 }
 FILE = {2: 'catalogue', 3: 'store'}
 ROLES = {9: ['if', 'then', 'else'], 23: ['let', 'in'], 24: ['class', 'let', 'in'], 26: ['clearance', 'covers']}
-BLOCKS = {10: ['where'], 11: ['where', 'value'], 27: ['class']}
 
 
 class Node:
@@ -38,15 +37,12 @@ class Node:
     def roles(self):
         if self.kind == 13:
             return ['from'] * self.a + ['where'] + [w for i in range(self.b) for w in (f'value {i + 1}', f'class of value {i + 1}')]
-        return ['from'] * self.a + BLOCKS[self.kind] if self.kind in BLOCKS else ROLES.get(self.kind, [''] * len(self.children))
+        return ['from'] * self.a + PARTS[self.kind] if self.kind in PARTS else ROLES.get(self.kind, [''] * len(self.children))
 
 
 def node(lines, at=0):
     made = Node(at, lines[at])
-    n = CHILDREN.get(made.kind, 0)
-    if made.kind in (10, 11, 13, 27):
-        n = made.a + {10: 1, 11: 2, 13: 1 + 2 * made.b, 27: 1}[made.kind]
-    for _ in range(n):
+    for _ in range(children(made.kind, made.a, 2 * made.b)):
         made.children.append(node(lines, made.next))
         made.next = made.children[-1].next
     return made
@@ -69,7 +65,7 @@ class Said:
 
     def inner(self, n, i, scopes):
         """The scopes that child i of a record stands in."""
-        if n.kind in (10, 11, 13, 27) and i >= n.a:
+        if (n.kind == 13 or n.kind in PARTS) and i >= n.a:
             return scopes + [[self.tables[t.a] for t in n.children[:n.a]]]
         if n.kind == 23 and i == 1:
             return scopes + [(self.type(n.children[0], scopes), 0)]
@@ -87,7 +83,7 @@ class Said:
 
     def type(self, n, scopes):
         """The type of a data tree, as the catalogue writes types; 0 is null's."""
-        if n.kind in (3, 22):
+        if n.kind in (3, 22, 28):
             return 512 + n.op
         if n.kind in (4, 5):
             return 256 * (n.kind - 1) + n.op
@@ -95,7 +91,7 @@ class Said:
             return self.column(n, scopes)[1].type
         if n.kind == 20:
             return scopes[-1 - n.a][0]
-        if n.kind in (9, 11, 23, 24):
+        if n.kind in (9, 11, 23, 24, 29, 30):
             i = 1 if n.kind == 9 else len(n.children) - 1
             return self.type(n.children[i], self.inner(n, i, scopes))
         if n.kind == 7 and n.op <= 4:
@@ -128,8 +124,10 @@ class Said:
     def record(self, n, scopes):
         """A record of a tree, with names for numbers."""
         out = f' ({n.a} out)' if n.kind in (17, 18, 19, 20, 21) and n.a else ''
-        if n.kind in (10, 11, 13, 27):
-            return {10: 'exists', 11: 'value', 13: 'select', 27: 'agg'}[n.kind]
+        if n.kind == 13:
+            return 'select'
+        if n.kind in PARTS:
+            return BLOCK_WORDS[n.kind] + (f' to {typed(self.type(n, scopes))}' if n.kind == 28 else '')
         if n.kind == 12:
             return f'table {self.words.named(self.tables[n.a].name)}'
         if n.kind in (17, 18):
@@ -159,10 +157,10 @@ class Said:
             return self.column_name(n, scopes)
         if n.kind == 18:
             return 'class of ' + self.column_name(n, scopes)
-        if n.kind == 11:
-            return 'value of ' + self.title(n.children[-1], self.inner(n, len(n.children) - 1, scopes))
-        if n.kind == 10:
-            return 'exists ' + ', '.join(self.words.named(self.tables[t.a].name) for t in n.children[:n.a])
+        if n.kind in (11, 29, 30):
+            return BLOCK_WORDS[n.kind] + ' of ' + self.title(n.children[-1], self.inner(n, len(n.children) - 1, scopes))
+        if n.kind in (10, 28):
+            return BLOCK_WORDS[n.kind] + ' ' + ', '.join(self.words.named(self.tables[t.a].name) for t in n.children[:n.a])
         if n.kind == 7:
             return OPS[n.op - 1]
         return {8: 'not', 9: 'if', 20: 'local', 22: 'conv', 23: 'let'}.get(n.kind, 'constant')

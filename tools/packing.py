@@ -5,7 +5,9 @@ A text's first line says which file it is. A CLASS, NAME, VALUE and so on are wr
 catalogue   table NAME class CLASS rows always CLASS      the rows' class is always this one
             table NAME class CLASS rows upto CLASS        each row stores its own, up to this one
             column NAME TYPE cells always|upto CLASS      TYPE: boolean, fixed DIGITS PLACES, time FORMAT, interval FORMAT, class
-view        select tables N values N, exists tables N, value tables N, then the tables, the where, the values
+view        select tables N values N                      then the tables, the where, the values
+            exists tables N, count DIGITS tables N        then the tables, the where
+            value tables N, max tables N, min tables N    then the tables, the where, the value
             table NAME, col NAME [of TABLE], classof NAME [of TABLE], let NAME, if, not
             plus minus times divide and or < <= = <> >= >
             null, true, false, fixed DIGITS PLACES VALUE, time FORMAT VALUE, interval FORMAT VALUE, class CLASS
@@ -265,7 +267,7 @@ def record_lines(kind, n, body, words):
     if len(body) != 8 * n:
         raise Bad(f'{len(body)} bytes follow the header, where {n} records take {8 * n}')
     records = [body[i:i + 8] for i in range(0, len(body), 8)]
-    deep = [fields(r)[0] == 2 for r in records] if kind == 'catalogue' else depths(records)
+    deep = [fields(r)[0] == 2 for r in records] if kind == 'catalogue' else depths(kind, records)
     return ['  ' * d + said(kind, r, words) for r, d in zip(records, deep)]
 
 

@@ -39,6 +39,10 @@ BAD = [
     ('view', 'time 1 2026-11-15', 'no line `format 1 UNIT`'),
     ('view', 'interval 1 2147483648', 'outside -2147483648 to 2147483647'),
     ('view', 'plus 4', '`4` is one word too many'),
+    ('view', 'count tables 1', '`tables` is not the number of digits'),
+    ('view', 'count 16 tables 1', 'outside 0 to 15'),
+    ('view', 'count 3', 'the line ends where `tables` is wanted'),
+    ('view', 'max 3 tables 1', '`3` stands where `tables` is wanted'),
     ('view', 'lub', '`lub` is a record of a tree, not of a view'),
     ('view', 'true true', '`true` is one word too many'),
     ('view', 'name 7', 'the line ends where its word is wanted'),
@@ -58,7 +62,7 @@ BAD = [
     ('names', 'names other.txt', '`names` does not belong in a text of names'),
 ]
 
-# A line of each kind of record, and the record's numbers as document 01 has them.
+# A line of each kind of record, and the record's numbers as documents 01 and 02 have them.
 SAID = [
     ('catalogue', 'table 7 class level0+mark0 rows upto level2+mark1', (1, 1, 7, 8194, 1)),
     ('catalogue', 'column 20 boolean cells always 0', (2, 0, 20, 0, 256)),
@@ -76,11 +80,13 @@ SAID = [
     ('view', 'not', (8, 0, 0, 0, 0)), ('view', 'if', (9, 0, 0, 0, 0)), ('view', 'exists tables 2', (10, 0, 2, 0, 0)),
     ('view', 'value tables 1', (11, 0, 1, 0, 0)), ('view', 'table 7', (12, 0, 7, 0, 0)), ('view', 'select tables 2 values 3', (13, 0, 2, 3, 0)),
     ('view', 'col 20', (14, 0, 20, 0, 0)), ('view', 'col 20 of 7', (14, 0, 20, 7, 0)), ('view', 'classof 20 of 7', (15, 0, 20, 7, 0)),
-    ('view', 'let 9', (16, 0, 9, 0, 0)),
+    ('view', 'let 9', (16, 0, 9, 0, 0)), ('view', 'count 3 tables 2', (28, 48, 2, 0, 0)), ('view', 'max tables 1', (29, 0, 1, 0, 0)),
+    ('view', 'min tables 4', (30, 0, 4, 0, 0)),
     ('tree', 'data 1 2 3', (17, 0, 1, 2, 3)), ('tree', 'cellclass 1 2 3', (18, 0, 1, 2, 3)), ('tree', 'rowclass 1 2', (19, 0, 1, 2, 0)),
     ('tree', 'local 1', (20, 0, 1, 0, 0)), ('tree', 'localclass 1', (21, 0, 1, 0, 0)), ('tree', 'conv 4 2', (22, 66, 0, 0, 0)),
     ('tree', 'bind', (23, 0, 0, 0, 0)), ('tree', 'bindc', (24, 0, 0, 0, 0)), ('tree', 'lub', (25, 0, 0, 0, 0)), ('tree', 'dom', (26, 0, 0, 0, 0)),
     ('tree', 'agg tables 2', (27, 0, 2, 0, 0)), ('tree', 'plus 4', (7, 1, 4, 0, 0)), ('tree', 'table 3', (12, 0, 3, 0, 0)),
+    ('tree', 'count 9 tables 1', (28, 144, 1, 0, 0)), ('tree', 'max tables 2', (29, 0, 2, 0, 0)), ('tree', 'min tables 1', (30, 0, 1, 0, 0)),
     ('tree', 'record 99 1 2 3 4', (99, 1, 2, 3, 4)),
 ]
 
@@ -152,7 +158,7 @@ def vectors(room):
 
 def other_files(room):
     """A tree of every kind and op, and an answer."""
-    body = [records.record(kind, op, a, b, c) for kind in range(32) for op in (0, 1, 2, 12, 13, 66, 255) for a, b, c in ((0, 0, 0), (1, 0, 0), (9, 2, 65535))]
+    body = [records.record(kind, op, a, b, c) for kind in range(32) for op in (0, 1, 2, 12, 13, 16, 66, 144, 255) for a, b, c in ((0, 0, 0), (1, 0, 0), (9, 2, 65535))]
     tree = packing.MARKS['tree'] + struct.pack('<HH', 1, len(body)) + b''.join(body)
     same('a tree there and back', again(room, tree, texts.Words())[1], tree)
     cells = [packing.cell(0, 4097, -5), packing.cell(1, 8191, 0), packing.cell(2, 0, 0), packing.cell(0, 0, 2**31 - 1)]
@@ -188,5 +194,5 @@ def run():
         print(f'{examples(room)} texts of examples/ are their packed files')
         print(f'{vectors(room)} files of crates/vectors there and back')
         print(f'{other_files(room)} other files there and back')
-        print(f'{said_lines(room)} lines are the records that document 01 numbers')
+        print(f'{said_lines(room)} lines are the records that documents 01 and 02 number')
         print(f'{bad_lines(room)} bad lines refused, each with its line and its fault')

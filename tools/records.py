@@ -5,7 +5,9 @@ from texts import HIGH, LOW, Bad, Line, decimal, pointed
 
 OPS = ['plus', 'minus', 'times', 'divide', 'and', 'or', '<', '<=', '=', '<>', '>=', '>']
 ALONE = {'null': 1, 'not': 8, 'if': 9, 'bind': 23, 'bindc': 24, 'lub': 25, 'dom': 26}
-BLOCKS = {'exists': 10, 'value': 11, 'agg': 27}
+BLOCKS = {'exists': 10, 'value': 11, 'agg': 27, 'count': 28, 'max': 29, 'min': 30}
+BLOCK_WORDS = {kind: word for word, kind in BLOCKS.items()}
+PARTS = {10: ['where'], 11: ['where', 'value'], 27: ['class'], 28: ['where'], 29: ['where', 'value'], 30: ['where', 'value']}
 PLACES = {'data': (17, 3), 'cellclass': (18, 3), 'rowclass': (19, 2), 'local': (20, 1), 'localclass': (21, 1)}
 TYPES = {1: 'boolean', 2: 'fixed', 3: 'time', 4: 'interval', 5: 'class'}
 TREE_ONLY = list(PLACES) + ['agg', 'bind', 'bindc', 'lub', 'dom', 'conv']
@@ -122,10 +124,11 @@ def tree_record(line, words):
 
 
 def block_record(kind, line):
+    op = 16 * line.number(0, 15, 'the number of digits') if kind == 'count' else 0
     line.keyword('tables')
     tables = field(line, 'a number of tables')
     if kind != 'select':
-        return record(BLOCKS[kind], 0, tables)
+        return record(BLOCKS[kind], op, tables)
     line.keyword('values')
     return record(13, 0, tables, field(line, 'a number of values'))
 
@@ -152,15 +155,16 @@ def view_record(line, words):
 def tree_said(r, words):
     kind, op, a, b, c = fields(r)
     value = struct.unpack('<i', r[4:])[0]
-    for table in (ALONE, BLOCKS):
-        for word, k in table.items():
-            if k == kind:
-                return word if table is ALONE else f'{word} tables {a}'
+    for word, k in ALONE.items():
+        if k == kind:
+            return word
     for word, (k, n) in PLACES.items():
         if k == kind:
             return ' '.join([word] + [str(x) for x in (a, b, c)[:n]])
     said = {2: ('false', 'true')[op & 1], 3: f'fixed {op >> 4} {op & 15} {pointed(value, op & 15)}', 5: f'interval {op} {value}',
             12: f'table {a}', 13: f'select tables {a} values {b}', 22: f'conv {op >> 4} {op & 15}'}
+    if kind in PARTS:
+        return BLOCK_WORDS[kind] + (f' {op >> 4}' if kind == 28 else '') + f' tables {a}'
     if kind == 4:
         return f'time {op} {words.timed(op, value)}'
     if kind == 6:
@@ -205,8 +209,15 @@ def said(file, r, words):
     return 'record ' + ' '.join(str(x) for x in fields(r))
 
 
-def depths(records):
-    """How deep each record of a view or tree stands, for its indentation."""
+def children(kind, a, values):
+    """How many children a record of a view or tree has, with a tables and, in SELECT, so many values."""
+    if kind == 13:
+        return a + 1 + values
+    return a + len(PARTS[kind]) if kind in PARTS else CHILDREN.get(kind, 0)
+
+
+def depths(file, records):
+    """How deep each record of a view or tree stands, for its indentation; a tree's SELECT has a class beside each value."""
     left, found = [], []
     for r in records:
         while left and left[-1] == 0:
@@ -215,5 +226,5 @@ def depths(records):
             left[-1] -= 1
         found.append(len(left))
         kind, _, a, b, _ = fields(r)
-        left.append(CHILDREN.get(kind, 0) if kind not in (10, 11, 13, 27) else a + {10: 1, 11: 2, 13: 1 + b, 27: 1}[kind])
+        left.append(children(kind, a, 2 * b if file == 'tree' else b))
     return found
