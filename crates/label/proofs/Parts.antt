@@ -22,15 +22,13 @@ use Rattle.scope.specs.declared.Found.the-variants as F
 use Rattle.resolve.specs.Expr.{Expr}
 use Rattle.resolve.specs.Expr as expr
 use Rattle.resolve.specs.Resolve.{brought}
-use Rattle.resolve.specs.Sizes.{capped}
 use Rattle.resolve.specs.declared.Files.{Files}
 use Rattle.resolve.specs.declared.Known.{Known}
 use Rattle.resolve.proofs.Inversion.{ColGood, of-column, of-local, ClassGood}
-use Rattle.tree.specs.Tree.{Tree, CELLCLASS, ROWCLASS, LOCALCLASS, encode, size}
+use Rattle.tree.specs.Tree.{Tree, CELLCLASS, ROWCLASS, LOCALCLASS, encode}
 use Rattle.tree.specs.Trans.{D, C, Class, fixed, asTree, infoOf, byInfo, join, choice, letClass, blockClass}
 use Rattle.tree.specs.Claims.{exprAt, typeAt, infoAt, dataAt}
 use Rattle.tree.proofs.Infos.{info-of-class}
-use Rattle.tree.proofs.Sizes.{size-data, size-class}
 use Rattle.tree.proofs.Answers.{KnownIs}
 use Rattle.label.specs.Claims.{classAt, IsTree, Told}
 use Rattle.label.specs.Found.{cellTree, rowTree}
@@ -137,13 +135,10 @@ module _ (c v : List ℕ) (f : Files) where
       classof-bytes k = by-found _ (k .table .row) (ROWCLASS (k .a) (k .b)) (k .is) refl ∙ ap (λ (u : Found). encode (rowTree u)) (sym (e ∙ ap (foundOf (infosOf t deep)) (k .found)))
 
 -- ---- WHAT THE WALK TELLS of an accepted value
-pub told-of : (c v : List ℕ) (f : Files) (t : List Scope) (deep d at : ℕ) (x : Known) → KnownIs c v f t deep d at x → Told c v f t deep d at x
-unfolding classAt dataAt
+pub told-of : (c v : List ℕ) (f : Files) (t : List Scope) (deep d at : ℕ) (x : Known) → KnownIs c v f t deep d at x → Told c v f t deep d at (record { ty = x .ty; info = x .info; next = x .next })
 told-of c v f t deep d at x k =
     record {
       ty-is = k .type-is;
       info-is = k .info-is ∙ info-is c v f t deep d at;
       next-is = k .next-is;
-      values-is = k .values-are ∙ ap capped (sym (size-data (exprAt c v f t deep d at)));
-      classes-is = k .classes-are ∙ ap capped (sym (size-class (f .k) (infosOf t deep) (exprAt c v f t deep d at)));
     }

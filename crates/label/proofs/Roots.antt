@@ -231,7 +231,7 @@ module _ (c ss v : List ℕ) (f : Files) (w : Viewed c ss v f) (tables values : 
     fine = found-fine ss _ (selectAt c v f .from) o p from-is
 
     pub entry : BlockOpened c (f .nc) (tablesNamed (tablesFrom c (f .nc) (f .nc) 0) (namesAt v 1 tables)) (o .scope)
-    entry = block-opened c (f .nc) (f .tables) ss v 1 tables o (w .given .starts) (some-tables, few-tables) p fine
+    entry = block-opened c (f .nc) (f .tables) ss v 1 tables o (w .given .starts) (w .given .cat-few) (some-tables, few-tables) p fine
 
     scopes-are : scopesOf c (f .nc) (replicate 16 (o .scope)) 1 ≡ opened (selectAt c v f .from) ∷ []
     unfolding scopesOf

@@ -21,6 +21,7 @@ use Rattle.view.specs.declared.Pick.{Pick}
 use Rattle.view.specs.declared.Node.{Node}
 use Rattle.view.specs.declared.Node.the-variants.{Const, Binop, Not, If, Let, Col, Classof}
 use Rattle.scope.specs.Scopes.{find}
+use Rattle.scope.specs.Words.{countIn}
 use Rattle.scope.specs.Table.{scopesOf, infosOf, foundOf, openOf}
 use Rattle.scope.specs.Blocks.{Tabs, all, tablesNamed, refsOf}
 use Rattle.scope.specs.Entry.{localScope, openedBy, tablesIn, rowsOf, classesOf}
@@ -32,7 +33,6 @@ use Rattle.resolve.specs.Claims.{blockNode}
 use Rattle.resolve.specs.declared.Asked.{Asked}
 use Rattle.resolve.specs.declared.Asked.the-variants as ask
 use Rattle.resolve.specs.declared.Files.{Files}
-use Rattle.resolve.specs.declared.Known.{Known}
 use Rattle.tree.specs.Tree.{Tree, encode, tableRecs}
 use Rattle.tree.specs.Trans.{Class, fixed, asTree, infoOf, nums, join, joinAll, choice, letClass, rowClasses, blockClass}
 use Rattle.tree.specs.Claims.{exprAt, typeAt, infoAt, dataAt, nextAt, refsAt, Accepted}
@@ -40,6 +40,7 @@ use Rattle.tree.proofs.Infos.{join-info, choice-info, let-info}
 use Rattle.tree.proofs.Accepted.{LetIs, BlockIs, const-is, col-is, classof-is, not-is, binop-is, if-is, let-is, block-is, exists-is, single-is}
 use Rattle.label.specs.Claims.{classAt, IsTree, IsBinop, Told}
 use Rattle.label.specs.Found.{cellTree, rowTree}
+use Rattle.label.specs.declared.Part.{Part}
 use Rattle.label.specs.Rows.{rowsTo, rowsIn, allRows, Rowed, hasValue, HasValue, atWhere, atKept, atRow}
 use Rattle.label.proofs.Joins.{class-bytes, fixed-bytes, join-turned, join-open, choice-open, let-fixed, let-open, block-bytes}
 use Rattle.label.proofs.FromLeft.{rows-where, rows-value}
@@ -50,15 +51,22 @@ fixed-bound e = absurd (let z : _≡_ {A = ℕ} 0 1 = cc in omega arith)
 
 -- ---- what is known of a class, and its bytes
 
-module _ {c v : List ℕ} {f : Files} {t : List Scope} {deep d at : ℕ} {x : Known} (k : Told c v f t deep d at x) where
+module _ (i : Class) {h : Info} (k : h ≡ infoOf i) where
+  pub known-fixed : {a : ℕ} → h ≡ Fixed a → encode (asTree i) ≡ recBytes 6 0 a 0 0
+  known-fixed {a} g = fixed-bytes i a (sym k ∙ g)
+
+  pub known-tree : {b : ℕ} → h ≡ Bound b → IsTree i
+  known-tree {b} g = record { upper = b; is = sym k ∙ g }
+
+module _ {c v : List ℕ} {f : Files} {t : List Scope} {deep d at : ℕ} {x : Part} (k : Told c v f t deep d at x) where
   pub told-fixed : {a : ℕ} → x .info ≡ Fixed a → encode (asTree (classAt c v f t deep d at)) ≡ recBytes 6 0 a 0 0
-  told-fixed {a} g = fixed-bytes (classAt c v f t deep d at) a (sym (k .info-is) ∙ g)
+  told-fixed g = known-fixed (classAt c v f t deep d at) (k .info-is) g
 
   pub told-tree : {b : ℕ} → x .info ≡ Bound b → IsTree (classAt c v f t deep d at)
-  told-tree {b} g = record { upper = b; is = sym (k .info-is) ∙ g }
+  told-tree g = known-tree (classAt c v f t deep d at) (k .info-is) g
 
 -- a choice of two, by what is known of both
-module _ {c v : List ℕ} {f : Files} {t : List Scope} {deep d : ℕ} {x y : ℕ} {a b : Known} (e : Tree) (k : Told c v f t deep d x a) (l : Told c v f t deep d y b)
+module _ {c v : List ℕ} {f : Files} {t : List Scope} {deep d : ℕ} {x y : ℕ} {a b : Part} (e : Tree) (k : Told c v f t deep d x a) (l : Told c v f t deep d y b)
     {h : Info} (i : h ≡ choiceI (a .info) (b .info)) where
   chosen-info : infoOf (choice e (classAt c v f t deep d x) (classAt c v f t deep d y)) ≡ h
   chosen-info = choice-info e (classAt c v f t deep d x) (classAt c v f t deep d y) ∙ sym (i ∙ ap₂ choiceI (k .info-is) (l .info-is))
@@ -79,7 +87,7 @@ unfolding asTree
 zero-bytes = class-bytes 0
 
 -- the choice of a value's class and 0
-module _ {c v : List ℕ} {f : Files} {t : List Scope} {deep d x : ℕ} {a : Known} (w : ℕ) (k : Told c v f t deep d x a) {h : Info} (i : h ≡ choiceI (a .info) (Fixed 0)) where
+module _ {c v : List ℕ} {f : Files} {t : List Scope} {deep d x : ℕ} {a : Part} (w : ℕ) (k : Told c v f t deep d x a) {h : Info} (i : h ≡ choiceI (a .info) (Fixed 0)) where
   pub kept-info : infoOf (atKept c v f t deep d w x) ≡ h
   unfolding atKept
   kept-info = choice-info (dataAt c v f t deep d w) (classAt c v f t deep d x) (fixed 0) ∙ sym (i ∙ ap₂ choiceI (k .info-is) (sym zero-info))
@@ -149,7 +157,7 @@ module _ (c v : List ℕ) (f : Files) (t : List Scope) (deep d at : ℕ) (s : Sc
   where-alone single e = ap (λ (b : Bool). encode (asTree (atRow b c v f t deep d at s))) (not-false single e)
 
   -- the row classes up to the last table j, and the where
-  module _ {j : ℕ} (l : (j ≡ s .count - 1) × (j ≤ 4)) {x : Known} (k : Told c v f t deep d at x) {i : Info} (p : i ≡ infoOf (rowsTo (rowsIn c (f .nc) s) j)) {h : Info} (e : h ≡ joinI i (x .info)) where
+  module _ {j : ℕ} (l : (j ≡ countIn s - 1) × (j ≤ 4)) {x : Part} (k : Told c v f t deep d at x) {i : Info} (p : i ≡ infoOf (rowsTo (rowsIn c (f .nc) s) j)) {h : Info} (e : h ≡ joinI i (x .info)) where
     all-is : i ≡ infoOf (allRows c (f .nc) s)
     all-is = p ∙ ap (λ (n : ℕ). infoOf (rowsTo (rowsIn c (f .nc) s) n)) (l .0)
 
@@ -175,7 +183,7 @@ module _ (c v : List ℕ) (f : Files) (t : List Scope) (deep d at : ℕ) (s : Sc
         ∙ ap (λ (z : List ℕ). recBytes 25 0 0 0 0 ++ (z ++ encode (asTree (classAt c v f t deep d at)))) last-is
 
     -- and the choice of the value's class and 0
-    module _ (single : Bool) (o : not single ≡ false) {y : Known} (q : Told c v f t deep d (x .next) y) {w : Info} (r : w ≡ choiceI (y .info) (Fixed 0)) {z : Info} (u : z ≡ joinI h w) where
+    module _ (single : Bool) (o : not single ≡ false) {y : Part} (q : Told c v f t deep d (x .next) y) {w : Info} (r : w ≡ choiceI (y .info) (Fixed 0)) {z : Info} (u : z ≡ joinI h w) where
       row-as : atRow single c v f t deep d at s ≡ join (atWhere c v f t deep d at s) (atKept c v f t deep d at (x .next))
       row-as = ap (λ (b : Bool). atRow b c v f t deep d at s) (not-true single o) ∙ row-is (x .next) (k .next-is)
 
@@ -191,7 +199,7 @@ module _ (c v : List ℕ) (f : Files) (t : List Scope) (deep d at : ℕ) (s : Sc
       row-open m = ap (λ (b : Class). encode (asTree b)) row-as ∙ joined-open _ _ where-info (sym (kept-info at q r)) u m
 
 -- the value of a block that has one, where the code holds it
-pub value-there : {single : Bool} {c ss v : List ℕ} {f : Files} {t : List Scope} {deep d at : ℕ} {x : Known} → not single ≡ false → HasValue single c ss v f t deep d at → Told c v f t deep d at x
+pub value-there : {single : Bool} {c ss v : List ℕ} {f : Files} {t : List Scope} {deep d at : ℕ} {x : Part} → not single ≡ false → HasValue single c ss v f t deep d at → Told c v f t deep d at x
     → Accepted c ss v f t deep d (x .next)
 value-there {single} {c} {ss} {v} {f} {t} {deep} {d} {at} {x} e h k = subst (λ (m : ℕ). Accepted c ss v f t deep d m) (sym (k .next-is)) (h .value (not-true single e))
 
@@ -223,7 +231,7 @@ module _ {c ss v : List ℕ} {f : Files} {t : List Scope} {deep d at : ℕ} (w :
     pub left-there : Accepted c ss v f t deep (d - 1) (at + 1)
     left-there = binop-is c ss v f t deep d at w _ refl (g .op) _ (g .is) refl .left
 
-    module _ {x : Known} (k : Told c v f t deep (d - 1) (at + 1) x) where
+    module _ {x : Part} (k : Told c v f t deep (d - 1) (at + 1) x) where
       pub right-there : Accepted c ss v f t deep (d - 1) (x .next)
       right-there = binop-is c ss v f t deep d at w _ refl (g .op) (x .next) (g .is) (k .next-is) .right
 
@@ -244,11 +252,11 @@ module _ {c ss v : List ℕ} {f : Files} {t : List Scope} {deep d at : ℕ} (w :
     pub test-there : Accepted c ss v f t deep (d - 1) (at + 1)
     test-there = if-is c ss v f t deep d at w _ refl _ _ g refl refl .test
 
-    module _ {x : Known} (k : Told c v f t deep (d - 1) (at + 1) x) where
+    module _ {x : Part} (k : Told c v f t deep (d - 1) (at + 1) x) where
       pub yes-there : Accepted c ss v f t deep (d - 1) (x .next)
       yes-there = if-is c ss v f t deep d at w _ refl (x .next) _ g (k .next-is) refl .yes
 
-      module _ {y : Known} (l : Told c v f t deep (d - 1) (x .next) y) where
+      module _ {y : Part} (l : Told c v f t deep (d - 1) (x .next) y) where
         pub no-there : Accepted c ss v f t deep (d - 1) (y .next)
         no-there = if-is c ss v f t deep d at w _ refl (x .next) (y .next) g (k .next-is) (l .next-is) .no
 
@@ -271,7 +279,7 @@ module _ {c ss v : List ℕ} {f : Files} {t : List Scope} {deep d at : ℕ} (w :
     pub own-there : Accepted c ss v f t deep (d - 1) (at + 1)
     own-there = let-is c ss v f t deep d at w _ refl name _ (localScope name (typeAt c v f t deep (d - 1) (at + 1)) (infoAt c v f t deep (d - 1) (at + 1))) _ g refl refl refl .value
 
-    module _ {x : Known} (k : Told c v f t deep (d - 1) (at + 1) x) {s : Scope} (p : s ≡ localScope name (x .ty) (x .info)) {u : List Scope} (q : u ≡ set t deep s) where
+    module _ {x : Part} (k : Told c v f t deep (d - 1) (at + 1) x) {s : Scope} (p : s ≡ localScope name (x .ty) (x .info)) {u : List Scope} (q : u ≡ set t deep s) where
       bound-there : LetIs c ss v f t u deep d at (x .next)
       bound-there = let-is c ss v f t deep d at w _ refl name (x .next) s u g (k .next-is) (p ∙ ap₂ (localScope name) (k .ty-is) (k .info-is ∙ sym (info-is c v f t deep (d - 1) (at + 1)))) q
 
@@ -305,7 +313,7 @@ module _ {c ss v : List ℕ} {f : Files} {t : List Scope} {deep d at : ℕ} (w :
     unfolding tablesIn refsAt
     own-tables = ap tablesIn (opened-there .entry .opens)
 
-    refs-count : o .scope .count ≡ length (refsAt c (f .nc) v (at + 1) count)
+    refs-count : countIn (o .scope) ≡ length (refsAt c (f .nc) v (at + 1) count)
     unfolding refsAt
     refs-count = opened-there .entry .counted
 
@@ -344,12 +352,12 @@ module _ {c ss v : List ℕ} {f : Files} {t : List Scope} {deep d at : ℕ} (w :
 
     inside : joinAll (rowClasses 0 refs ++ (classAt c v f u (deep + 1) (d - 1) (at + 1 + count) ∷ [])) ≡ atWhere c v f u (deep + 1) (d - 1) (at + 1 + count) (o .scope)
     unfolding atWhere
-    inside = rows-where (rowsIn c (f .nc) (o .scope)) refs rows-are (o .scope .count) refs-count (rowed .some) _
+    inside = rows-where (rowsIn c (f .nc) (o .scope)) refs rows-are (countIn (o .scope)) refs-count (rowed .some) _
 
     inside-value : joinAll (rowClasses 0 refs ++ (classAt c v f u (deep + 1) (d - 1) (at + 1 + count) ∷ choice (dataAt c v f u (deep + 1) (d - 1) (at + 1 + count)) (classAt c v f u (deep + 1) (d - 1) (nextAt v f (d - 1) (at + 1 + count))) (fixed 0) ∷ []))
         ≡ atRow true c v f u (deep + 1) (d - 1) (at + 1 + count) (o .scope)
     unfolding atRow atWhere atKept
-    inside-value = rows-value (rowsIn c (f .nc) (o .scope)) refs rows-are (o .scope .count) refs-count (rowed .some) _ _
+    inside-value = rows-value (rowsIn c (f .nc) (o .scope)) refs rows-are (countIn (o .scope)) refs-count (rowed .some) _ _
 
     exists-block : (h : Fold) → asked ≡ ask.Rows h → classAt c v f t deep d at ≡ blockClass refs (classAt c v f u (deep + 1) (d - 1) (at + 1 + count) ∷ [])
     exists-block h e = exists-class c v f t deep d at u (at + 1 + count) h refs (exists-is c ss v f t deep d at w asked count g o p u q h e .is) (opened-there .infos)

@@ -36,7 +36,6 @@ use Rattle.resolve.specs.Expr.{Expr, Select}
 use Rattle.resolve.specs.Resolve.{good, resolve, Outs, goods, resolveAll, Resolved, select, refused as denied, resolveView}
 use Rattle.resolve.specs.Claims.{Lent, Ready, resolvedBy, verdictOf}
 use Rattle.resolve.specs.declared.Files.{Files}
-use Rattle.resolve.specs.declared.Known.{Known}
 use Rattle.resolve.specs.declared.Verdict.the-variants as verdict
 use Rattle.resolve.proofs.Inversion.{ViewGood, view-good, all-good}
 use Rattle.tree.specs.Tree.{Tree, SelectTree, BINOP, DOM, ROWCLASS, CLASS, sizeSelect, tableRecs, encode, encodePairs, encodeSelect, treeFile}
@@ -46,7 +45,7 @@ use Rattle.tree.specs.Claims.{exprAt, typeAt, dataAt, nextAt, refsAt, Tabled, N
 use Rattle.tree.proofs.Infos.{bound-info}
 use Rattle.tree.proofs.Narrow.{narrow-null}
 use Rattle.tree.proofs.Accepted.{Is, accept}
-use Rattle.label.specs.Claims.{classAt, Told}
+use Rattle.label.specs.Claims.{classAt}
 use Rattle.label.specs.Rows.{rowItem, rowsIn}
 use Rattle.label.specs.Whole.{selectIn, selectAt, treeAt, Viewed, Accepts, pairBytes, flat, testBytes, classesIn, domBytes, flatSize, testSize}
 use Rattle.label.proofs.Joins.{class-bytes}

@@ -8,12 +8,10 @@ use Rattle.view.specs.Record.{nodeAt}
 use Rattle.view.specs.declared.Node.the-variants.{Binop}
 use Rattle.scope.specs.Table.{infosOf}
 use Rattle.scope.specs.declared.Scope.{Scope}
-use Rattle.resolve.specs.Sizes.{capped}
 use Rattle.resolve.specs.declared.Files.{Files}
-use Rattle.resolve.specs.declared.Known.{Known}
-use Rattle.tree.specs.Tree.{size}
-use Rattle.tree.specs.Trans.{C, Class, asTree, infoOf}
-use Rattle.tree.specs.Claims.{exprAt, typeAt, dataAt, nextAt}
+use Rattle.tree.specs.Trans.{C, Class, infoOf}
+use Rattle.tree.specs.Claims.{exprAt, typeAt, nextAt}
+use Rattle.label.specs.declared.Part.{Part}
 
 -- THE CLASS of the value at a record
 unfoldable pub classAt : List ℕ → List ℕ → Files → List Scope → ℕ → ℕ → ℕ → Class
@@ -30,9 +28,7 @@ pub record IsBinop (v : List ℕ) (at : ℕ) : Type 0 where
   pub is : nodeAt v at ≡ Binop op
 
 -- what is known of the value at a record
-pub record Told (c v : List ℕ) (f : Files) (t : List Scope) (deep d at : ℕ) (r : Known) : Type 0 where
+pub record Told (c v : List ℕ) (f : Files) (t : List Scope) (deep d at : ℕ) (r : Part) : Type 0 where
   pub ty-is : r .ty ≡ typeAt c v f t deep d at
   pub info-is : r .info ≡ infoOf (classAt c v f t deep d at)
   pub next-is : r .next ≡ nextAt v f d at
-  pub values-is : r .values ≡ capped (size (dataAt c v f t deep d at))
-  pub classes-is : r .classes ≡ capped (size (asTree (classAt c v f t deep d at)))

@@ -6,6 +6,7 @@ use mathlib.Core.List.{List}
 use lib.ListN.{length, getD}
 use Rattle.class.specs.declared.Info.{Info}
 use Rattle.class.specs.declared.Info.the-variants.{Fixed}
+use Rattle.scope.specs.Words.{countIn}
 use Rattle.scope.specs.Table.{openOf}
 use Rattle.scope.specs.Entry.{tablesIn, rowsOf, Among}
 use Rattle.scope.specs.declared.Scope.{Scope}
@@ -33,15 +34,15 @@ rowsIn c n s = rowsOf (tablesIn (openOf c n s))
 
 -- those of all tables of a block
 abbrev pub allRows : List ℕ → ℕ → Scope → Class
-allRows c n s = rowsTo (rowsIn c n s) (s .count - 1)
+allRows c n s = rowsTo (rowsIn c n s) (countIn s - 1)
 
 -- a block's entry: its tables are the catalogue's, one to four
 pub record Rowed (c : List ℕ) (n : ℕ) (s : Scope) : Type 0 where
   pub long : 8 + 8 * n ≤ length c
   pub among : Among n s
-  pub some : 1 ≤ s .count
-  pub few : s .count ≤ 4
-  pub counted : s .count ≡ length (rowsIn c n s)
+  pub some : 1 ≤ countIn s
+  pub few : countIn s ≤ 4
+  pub counted : countIn s ≡ length (rowsIn c n s)
 
 -- EXISTS and COUNT have no value; VALUE, MAX and MIN have one
 unfoldable pub hasValue : Asked → Bool

@@ -13,6 +13,7 @@ ghost use Rattle.word.specs.Buffer.{Wrote, Room};
 ghost use Rattle.word.specs.Record.{recBytes};
 ghost use Rattle.view.specs.Record.{nodeAt};
 ghost use Rattle.view.specs.declared.Node.the-variants.{If, Let};
+ghost use Rattle.scope.specs.Words.{countIn};
 ghost use Rattle.resolve.specs.Claims.{blockNode};
 ghost use Rattle.tree.specs.Tree.{encode};
 ghost use Rattle.tree.specs.Trans.{asTree, choice};
@@ -20,6 +21,13 @@ ghost use Rattle.tree.specs.Claims.{dataAt, Accepted};
 ghost use Rattle.label.specs.Claims.{classAt, IsTree, Told, IsBinop};
 ghost use Rattle.label.specs.Found.{cellTree, rowTree};
 ghost use Rattle.label.specs.Rows.{Rowed, hasValue, HasValue, atWhere, atKept, atRow};
+
+// What is known of a part of a value: its type, what is known of its class, and the next record.
+struct Part {
+    pub ty: cell::Type,
+    pub info: class::Info,
+    pub next: usize,
+}
 
 // What is known of an accepted value.
 fn known(
@@ -31,28 +39,34 @@ fn known(
     depth: usize,
     t: [scope::Scope; 16],
     deep: usize,
-) -> resolve::Known
+) -> Part
     requires { ⌜ Accepted (now cat) (now starts) (now view) f t deep depth at ⌝ }
     ensures { λ r. ⌜ Told (now (cat .entry)) (now (view .entry)) f t deep depth at r ⌝ }
 {
     match resolve::value(cat, starts, view, f, at, depth, t, deep) {
-        resolve::Typed::Is(x) => x,
-        resolve::Typed::Refused(_, _) => resolve::Known {
+        resolve::Typed::Is(x) => {
+            let ty = x.ty;
+            let info = x.info;
+            Part {
+                ty,
+                info,
+                next: x.next as usize,
+            }
+        }
+        resolve::Typed::Refused(_, _) => Part {
             ty: cell::Type::Null,
             info: class::Info::Fixed(0),
             next: at,
-            values: 0,
-            classes: 0,
         },
     }
 }
 
 // The number of a block's last table.
 fn last_of(s: scope::Scope) -> usize
-    requires { ⌜ (1 ≤ s .count) × (s .count ≤ 4) ⌝ }
-    ensures { λ r. ⌜ (r ≡ s .count - 1) × (r ≤ 4) ⌝ }
+    requires { ⌜ (1 ≤ countIn s) × (countIn s ≤ 4) ⌝ }
+    ensures { λ r. ⌜ (r ≡ countIn s - 1) × (r ≤ 4) ⌝ }
 {
-    let count = s.count;
+    let count = scope::count_in(s);
     (count - 1) as usize
 }
 

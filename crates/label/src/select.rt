@@ -10,8 +10,8 @@ ghost use Rattle.word.specs.Buffer.{Wrote, Room};
 ghost use Rattle.view.specs.Record.{nodeAt};
 ghost use Rattle.view.specs.declared.Node.the-variants.{Select};
 ghost use Rattle.scope.specs.Entry.{Among};
-ghost use Rattle.tree.specs.Tree.{treeFile, sizeSelect};
-ghost use Rattle.tree.specs.Trans.{fixed};
+ghost use Rattle.tree.specs.Tree.{encode, treeFile, sizeSelect};
+ghost use Rattle.tree.specs.Trans.{fixed, asTree, infoOf};
 ghost use Rattle.tree.specs.Select.{test};
 ghost use Rattle.tree.specs.Claims.{Accepted};
 ghost use Rattle.label.specs.Claims.{classAt};
@@ -19,7 +19,7 @@ ghost use Rattle.label.specs.Rows.{rowItem, rowsIn};
 ghost use Rattle.label.specs.Whole.{Viewed, Accepts, selectAt, treeAt, pairBytes, flat, testBytes, testSize, classesIn, domBytes};
 use crate::known;
 use crate::rows;
-use crate::write_c;
+use crate::write_open;
 
 // and(DOM(CLASS q, ..
 fn write_dom(q: u16, out: &mut [u8], to: usize) -> usize
@@ -90,6 +90,29 @@ fn write_tests(
     write_tests(s, cat, n, q, j + 1, left - 1, out, b)
 }
 
+// The class of the value at a record, of which `info` is known, as a tree: one record where it is fixed.
+fn write_known(
+    cat: &[u8],
+    starts: &[u16; 32],
+    view: &[u8],
+    f: resolve::Files,
+    at: usize,
+    t: [scope::Scope; 16],
+    info: class::Info,
+    out: &mut [u8],
+    to: usize,
+) -> usize
+    requires { ⌜ Accepted (now cat) (now starts) (now view) f t 1 15 at ⌝ }
+    requires { ⌜ info ≡ infoOf (classAt (now cat) (now view) f t 1 15 at) ⌝ }
+    requires { ⌜ Room (now out) to (encode (asTree (classAt (now cat) (now view) f t 1 15 at))) ⌝ }
+    ensures { λ r. ⌜ Wrote (now (out .entry)) to (encode (asTree (classAt (now (cat .entry)) (now (view .entry)) f t 1 15 at))) (now (out .exit)) r ⌝ }
+{
+    match info {
+        class::Info::Fixed(k) => word::put_rec(out, to, 6, 0, k, 0, 0),
+        class::Info::Bound(_) => write_open(cat, starts, view, f, at, 15, t, 1, out, to),
+    }
+}
+
 // The test of the class of the where at record `at`.
 fn write_where_test(
     cat: &[u8],
@@ -113,7 +136,7 @@ fn write_where_test(
         return to;
     }
     let p = write_dom(q, out, to);
-    write_c(cat, starts, view, f, at, 15, t, 1, out, p)
+    write_known(cat, starts, view, f, at, t, i, out, p)
 }
 
 // The pairs of data and class of so many values from record `at` on.
@@ -138,7 +161,8 @@ fn write_pairs(
     while 0 < i {
         let x = tree::write_d(cat, starts, view, f, m, 15, t, 1, out, u);
         let p = x.to;
-        u = write_c(cat, starts, view, f, m, 15, t, 1, out, p);
+        let info = x.info;
+        u = write_known(cat, starts, view, f, m, t, info, out, p);
         m = x.next;
         i -= 1;
     }

@@ -3,7 +3,6 @@
 pub mod Inversion
 pub mod Weights
 pub mod Leaves
-pub mod Levels
 pub mod Tables
 pub mod Folding
 pub mod Equations

@@ -214,7 +214,7 @@ module _ (c ss v : List ℕ) (f : Files) (tables count : ℕ) (w : Rooted c ss v
 
     module _ (z : not (o .fine) ≡ false) where
       there : BlockOpened c (f .nc) (tablesNamed (tablesFrom c (f .nc) (f .nc) 0) (namesAt v 1 tables)) (o .scope)
-      there = block-opened c (f .nc) (f .tables) ss v 1 tables o (w .lent .starts) (w .some-tables, w .few-tables) q (not-false (o .fine) z)
+      there = block-opened c (f .nc) (f .tables) ss v 1 tables o (w .lent .starts) (w .lent .cat-few) (w .some-tables, w .few-tables) q (not-false (o .fine) z)
 
       abbrev t : List Scope
       t = replicate 16 (o .scope)
@@ -286,7 +286,7 @@ module _ (c ss v : List ℕ) (f : Files) (tables count : ℕ) (w : Rooted c ss v
                   ≡ verdictOf (f .k) (resolvedBy (tablesFrom c (f .nc) (f .nc) 0) (parseBlock v (f .n) 15 (parseValue v (f .n) 15) tables count 1))
               root-9 e = sym (judged ∙ rw (ne-eqb (kindOf (known .t)) 1 (λ d. e (kind-is ∙ d))))
 
-pub ruleset roots = (root-6, root-ready, root-refused, values-ready, values-refused, root-fine, root-9, needs)
+pub ruleset roots = (root-6, root-ready, root-refused, values-ready, values-refused, root-9, needs)
 
 -- THE WHOLE VIEW
 -- SELECT's variant is none of the others

@@ -1,17 +1,18 @@
 -- The walk where a scope opens, LET and the blocks: one law for each place of its code.
 -- Assumes nothing.
-use Prim.Native.Nat.{ℕ, _+_, _-_, _*_, _<_, _≤_}
+use Prim.Native.Nat.{ℕ, zero, suc, _+_, _-_, _*_, _<_, _≤_}
 use mathlib.Core.Path.{_≡_, refl, sym, ap, _∙_}
 use mathlib.Core.Bool.{Bool, true, false, not}
 use mathlib.Core.List.{List, _∷_, map}
 use native.Mathlib.Omega.{arith}
 use lib.ListN.{length, set, length-set}
 use Rattle.class.specs.declared.Info.the-variants.{Fixed}
-use Rattle.catalogue.specs.Tables.{Table, tablesFrom}
+use Rattle.cell.specs.Res.{Res, stuck, done}
+use Rattle.catalogue.specs.Tables.{Table, TabRef, tableNamed, tablesFrom}
 use Rattle.view.specs.Ast.{Exp, WasRead}
 use Rattle.view.specs.Ast as ast
 use Rattle.view.specs.Record.{nodeAt}
-use Rattle.view.specs.Parse.{namesAt, parseValue}
+use Rattle.view.specs.Parse.{nameOf, namesAt, parseValue}
 use Rattle.view.specs.declared.Fold.{Fold}
 use Rattle.view.specs.declared.Pick.{Pick}
 use Rattle.view.specs.declared.Node.{Node}
@@ -21,7 +22,7 @@ use Rattle.view.proofs.Read.{One, Two, Listed, was-read}
 use Rattle.view.proofs.Says.{exists-few, single-few}
 use Rattle.scope.specs.Scopes.{local}
 use Rattle.scope.specs.Table.{openOf, scopesOf, infosOf}
-use Rattle.scope.specs.Blocks.{Tabs, missing, tablesNamed, refsOf, opened}
+use Rattle.scope.specs.Blocks.{Tabs, all, missing, before, foundAt, tablesNamed, refsOf, opened}
 use Rattle.scope.specs.Entry.{localScope, openedBy, tablesIn}
 use Rattle.scope.specs.declared.Scope.{Scope}
 use Rattle.scope.specs.declared.Opened.{Opened}
@@ -48,7 +49,7 @@ pub not-false : (b : Bool) → not b ≡ false → b ≡ true
 not-false true e = refl
 not-false false e = sym e
 
--- the node of a block, as the walk has found it
+-- the node of a block or of LET, as the walk has found it
 pub exists-node : (v : List ℕ) (at a : ℕ) (q : Fold) (nd : Node) → nd ≡ nodeAt v at → nd ≡ Exists a q → nodeAt v at ≡ blockNode (ask.Rows q) a
 unfolding blockNode
 exists-node v at a q nd e g = sym e ∙ g
@@ -56,6 +57,20 @@ exists-node v at a q nd e g = sym e ∙ g
 pub single-node : (v : List ℕ) (at a : ℕ) (q : Pick) (nd : Node) → nd ≡ nodeAt v at → nd ≡ Single a q → nodeAt v at ≡ blockNode (ask.Values q) a
 unfolding blockNode
 single-node v at a q nd e g = sym e ∙ g
+
+pub let-node : (v : List ℕ) (at name : ℕ) (nd : Node) → nd ≡ nodeAt v at → nd ≡ Let name → nodeAt v at ≡ Let name
+let-node v at name nd e g = sym e ∙ g
+
+-- the first table that is missing is one of those named
+missing-first : (cat : List Table) (v : List ℕ) (at count p : ℕ) → tablesNamed cat (namesAt v at count) ≡ missing p → p < at + count
+unfolding tablesNamed namesAt foundAt before
+missing-first cat v at zero p e = absurd (let z : _≡_ {A = ℕ} 0 1 = cc in omega arith)
+missing-first cat v at (suc count) p e = go (tableNamed (nameOf (nodeAt v at)) cat) (tablesNamed cat (namesAt v (at + 1) count)) (missing-first cat v (at + 1) count p) e
+  where
+    go : (x : Res TabRef) (r : Tabs) → (r ≡ missing p → p < at + 1 + count) → foundAt at x r ≡ missing p → p < at + suc count
+    go stuck r h k = let z : at ≡ p = cc in omega arith
+    go (done t) (all ts) h k = absurd (let z : _≡_ {A = ℕ} 0 1 = cc in omega arith)
+    go (done t) (missing q) h k = let l = h k in omega arith
 
 module _ (c ss v : List ℕ) (f : Files) where
   abbrev cat : List Table
@@ -70,44 +85,43 @@ module _ (c ss v : List ℕ) (f : Files) where
   push-room t deep d at w = omega arith
 
   -- LET
-  module _ (t : List Scope) (deep d at : ℕ) (nd : Node) (w : Ready c ss v f t deep d at) (e : nd ≡ nodeAt v at) (name : ℕ) (g : nd ≡ Let name) where
+  module _ (t : List Scope) (deep d at : ℕ) (w : Ready c ss v f t deep d at) (name : ℕ) (g : nodeAt v at ≡ Let name) where
     two-let : Two (parseValue v (f .n) (d - 1)) (at + 1) (parseValue v (f .n) d at) (ast.Exp.letin at name)
-    two-let = read.let-read v (f .n) d at (w .is-read) e g
+    two-let = read.let-read v (f .n) d at (w .is-read) refl g
 
     pub let-ready : Ready c ss v f t deep (d - 1) (at + 1)
     let-ready = child c ss v f t t deep deep d at (at + 1) w (w .sized) (omega arith) (was-read (two-let .first))
 
-    module _ (l : Typed) (a : l ≡ answerAt c v f t deep (d - 1) (at + 1)) where
-      abbrev bodied : Known → Typed
-      bodied x =
-          thenT (typedBy (f .k) (tablesFrom c (f .nc) (f .nc) 0) (local name (x .ty) ∷ scopesOf c (f .nc) t deep) (x .info ∷ infosOf t deep) (parseValue v (f .n) (d - 1) (x .next)))
-          (λ y. typed.Is (letK x y))
+    abbrev bodied : Known → Typed
+    bodied x =
+        thenT (typedBy (f .k) (tablesFrom c (f .nc) (f .nc) 0) (local name (x .ty) ∷ scopesOf c (f .nc) t deep) (x .info ∷ infosOf t deep) (parseValue v (f .n) (d - 1) (x .next)))
+        (λ y. typed.Is (letK x y))
 
-      let-whole : answerAt c v f t deep d at ≡ thenT l bodied
-      let-whole = let-step (f .k) _ _ _ _ at _ name two-let ∙ ap (λ (z : Typed). thenT z bodied) (sym a)
+    let-whole : answerAt c v f t deep d at ≡ thenT (answerAt c v f t deep (d - 1) (at + 1)) bodied
+    let-whole = let-step (f .k) _ _ _ _ at _ name two-let
 
-      pub let-refused : (i p : ℕ) → l ≡ typed.Refused i p → typed.Refused i p ≡ answerAt c v f t deep d at
-      let-refused i p b = sym (let-whole ∙ then-refused l i p _ b)
+    pub let-refused : (l : Typed) → l ≡ answerAt c v f t deep (d - 1) (at + 1) → (i p : ℕ) → l ≡ typed.Refused i p → typed.Refused i p ≡ answerAt c v f t deep d at
+    let-refused l a i p b = sym (let-whole ∙ then-refused _ i p _ (sym a ∙ b))
 
-      module _ (x : Known) (b : l ≡ typed.Is x) (s : Scope) (u : List Scope) (p : s ≡ localScope name (x .ty) (x .info)) (q : u ≡ set t deep s) where
-        pub body-ready : Ready c ss v f u (deep + 1) (d - 1) (x .next)
-        body-ready = inner t deep d at w s u q (x .next) (rw (after _ _ _ _ _ (two-let .first) (sym a ∙ b)) at (was-read (two-let .second)))
+    module _ (x : Known) (b : answerAt c v f t deep (d - 1) (at + 1) ≡ typed.Is x) (s : Scope) (u : List Scope) (p : s ≡ localScope name (x .ty) (x .info)) (q : u ≡ set t deep s) where
+      pub body-ready : Ready c ss v f u (deep + 1) (d - 1) (x .next)
+      body-ready = inner t deep d at w s u q (x .next) (rw (after _ _ _ _ _ (two-let .first) b) at (was-read (two-let .second)))
 
-        body-scopes : scopesOf c (f .nc) u (deep + 1) ≡ local name (x .ty) ∷ scopesOf c (f .nc) t deep
-        body-scopes = push.local-scopes c (f .nc) t u deep s q (push-room t deep d at w) (w .sized) name (x .ty) (x .info) p
+      body-scopes : scopesOf c (f .nc) u (deep + 1) ≡ local name (x .ty) ∷ scopesOf c (f .nc) t deep
+      body-scopes = push.local-scopes c (f .nc) t u deep s q (push-room t deep d at w) (w .sized) name (x .ty) (x .info) p
 
-        body-infos : infosOf u (deep + 1) ≡ x .info ∷ infosOf t deep
-        body-infos = push.local-infos c (f .nc) t u deep s q (push-room t deep d at w) (w .sized) name (x .ty) (x .info) p
+      body-infos : infosOf u (deep + 1) ≡ x .info ∷ infosOf t deep
+      body-infos = push.local-infos c (f .nc) t u deep s q (push-room t deep d at w) (w .sized) name (x .ty) (x .info) p
 
-        body-whole : answerAt c v f t deep d at ≡ thenT (answerAt c v f u (deep + 1) (d - 1) (x .next)) (λ y. typed.Is (letK x y))
-        body-whole = let-whole ∙ then-is l x bodied b ∙ rw (← body-scopes, ← body-infos)
+      body-whole : answerAt c v f t deep d at ≡ thenT (answerAt c v f u (deep + 1) (d - 1) (x .next)) (λ y. typed.Is (letK x y))
+      body-whole = let-whole ∙ then-is _ x bodied b ∙ rw (← body-scopes, ← body-infos)
 
-        module _ (r : Typed) (h : r ≡ answerAt c v f u (deep + 1) (d - 1) (x .next)) where
-          pub body-refused : (i k : ℕ) → r ≡ typed.Refused i k → typed.Refused i k ≡ answerAt c v f t deep d at
-          body-refused i k j = sym (body-whole ∙ then-refused _ i k _ (sym h ∙ j))
+      module _ (r : Typed) (h : r ≡ answerAt c v f u (deep + 1) (d - 1) (x .next)) where
+        pub body-refused : (i k : ℕ) → r ≡ typed.Refused i k → typed.Refused i k ≡ answerAt c v f t deep d at
+        body-refused i k j = sym (body-whole ∙ then-refused _ i k _ (sym h ∙ j))
 
-          pub let-done : (y z : Known) → r ≡ typed.Is y → z ≡ letK x y → typed.Is z ≡ answerAt c v f t deep d at
-          let-done y z j m = ap typed.Is m ∙ sym (body-whole ∙ then-is _ y _ (sym h ∙ j))
+        pub let-done : (y z : Known) → r ≡ typed.Is y → z ≡ letK x y → typed.Is z ≡ answerAt c v f t deep d at
+        let-done y z j m = ap typed.Is m ∙ sym (body-whole ∙ then-is _ y _ (sym h ∙ j))
 
   -- a block's node
   module _ (t : List Scope) (deep d at : ℕ) (w : Ready c ss v f t deep d at) (asked : Asked) (count : ℕ) (g : nodeAt v at ≡ blockNode asked count) where
@@ -150,6 +164,10 @@ module _ (c ss v : List ℕ) (f : Files) where
     single-two q e = read.single-read v (f .n) d at (w .is-read) refl (single-here q e)
 
     module _ (o : Opened) (p : o ≡ openedBy ss (tablesNamed (tablesFrom c (f .nc) (f .nc) 0) (namesAt v (at + 1) count))) where
+      -- the place of a missing table fits 16 bits
+      pub block-place : not (o .fine) ≡ true → o .place < 65536
+      block-place z = let h = missing-first cat v (at + 1) count (o .place) (block-missing ss tabs o p (not-true (o .fine) z)) in let k = block-next in omega arith
+
       pub block-6 : not (o .fine) ≡ true → typed.Refused 6 (o .place) ≡ answerAt c v f t deep d at
       block-6 z = go asked refl
         where
@@ -162,7 +180,7 @@ module _ (c ss v : List ℕ) (f : Files) where
 
       module _ (z : not (o .fine) ≡ false) where
         there : BlockOpened c (f .nc) (tablesNamed (tablesFrom c (f .nc) (f .nc) 0) (namesAt v (at + 1) count)) (o .scope)
-        there = block-opened c (f .nc) (f .tables) ss v (at + 1) count o (w .lent .starts) (few asked refl) p (not-false (o .fine) z)
+        there = block-opened c (f .nc) (f .tables) ss v (at + 1) count o (w .lent .starts) (w .lent .cat-few) (few asked refl) p (not-false (o .fine) z)
 
         pub block-opening : Opening c (f .nc) (o .scope)
         block-opening =

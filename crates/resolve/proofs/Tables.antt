@@ -1,7 +1,7 @@
 -- A block's tables as the walk knows them: their rows' weights joined in order, and what is known of a block; one law for each place of the code.
 -- Assumes nothing.
 use Prim.Native.Nat.{ℕ, zero, suc, _+_, _-_, _<_, _≤_, min}
-use mathlib.Core.Path.{_≡_, refl, sym, ap, _∙_}
+use mathlib.Core.Path.{_≡_, refl, sym, ap, ap₂, _∙_}
 use mathlib.Core.List.{List, [], _∷_, _++_, map}
 use native.Mathlib.Omega.{arith}
 use native.Mathlib.Numerals.{add-one}
@@ -10,7 +10,7 @@ use borrow.Author.Tests.{eq-eqb, ne-eqb}
 use lib.ListN.{length, getD, drop, drop-of-length-le}
 use lib.Seq.{drop-cons}
 use Rattle.class.specs.Class.{lubAll}
-use Rattle.class.specs.Info.{boundOf}
+use Rattle.class.specs.Info.{boundOf, joinI, choiceI}
 use Rattle.class.specs.declared.Info.{Info}
 use Rattle.class.specs.declared.Info.the-variants.{Fixed, Bound}
 use Rattle.cell.specs.Types.{kindOf, judgedOf}
@@ -20,19 +20,20 @@ use Rattle.cell.specs.declared.Judged.the-variants as J
 use Rattle.catalogue.specs.Tables.{Table, TabRef}
 use Rattle.view.specs.declared.Fold.{Fold}
 use Rattle.view.specs.declared.Pick.{Pick}
+use Rattle.scope.specs.Words.{countIn}
 use Rattle.scope.specs.Table.{tabsAt, openOf}
 use Rattle.scope.specs.Entry.{tablesIn, rowsOf, classesOf}
 use Rattle.scope.specs.declared.Scope.{Scope}
 use Rattle.scope.proofs.Block.{tables-in}
 use Rattle.resolve.specs.Totals.{foldType, pickType}
-use Rattle.resolve.specs.Infos.{tableClass}
+use Rattle.resolve.specs.Infos.{tableClass, joinAllI, blockI}
 use Rattle.resolve.specs.Sizes.{weighed, joinW, joinsW, joinAllW, choiceW, rowsW, blockW, capped}
 use Rattle.resolve.specs.Steps.{classOf, stopped, knownBy, aggW, refsTo, existsK, singleK, ruledT, boolT, existsT, singleT}
 use Rattle.resolve.specs.Claims.{Opening}
 use Rattle.resolve.specs.declared.Weighed.{Weighed}
 use Rattle.resolve.specs.declared.Known.{Known}
 use Rattle.resolve.specs.declared.Typed.the-variants as typed
-use Rattle.resolve.proofs.Weights.{Alike, alike-refl, alike-trans, all-refl, joins-alike, weighed-alike, join-alike, choice-alike, agg-alike, known-alike}
+use Rattle.resolve.proofs.Weights.{block-info, Alike, alike-refl, alike-trans, all-refl, joins-alike, weighed-alike, join-alike, choice-alike, agg-alike, known-alike}
 use Rattle.resolve.proofs.Leaves.{stopped-alike, alike-stopped, judged-is, judged-broken}
 
 -- two weights whose stopped ones are equal
@@ -73,6 +74,11 @@ class-of : (ts : List TabRef) → tableClass ts ≡ lubAll (classesOf (map (λ t
 class-of [] = refl
 class-of (t ∷ ts) = rw (class-of ts)
 
+infos-of : (ts : List TabRef) → map (λ t. t .table .row) ts ≡ map (λ t. t .table .row) (refsTo (map (λ t. t .table) ts))
+unfolding refsTo
+infos-of [] = refl
+infos-of (t ∷ ts) = ap (λ (is : List Info). t .table .row ∷ is) (infos-of ts)
+
 module _ (ts : List TabRef) where
   own-rows : rowsW ts ≡ rowsW (refsTo (map (λ t. t .table) ts))
   own-rows = rows-of ts ∙ sym (rows-are (map (λ t. t .table) ts))
@@ -86,6 +92,10 @@ module _ (ts : List TabRef) where
   own-block : (xs : List Weighed) → blockW ts xs ≡ blockW (refsTo (map (λ t. t .table) ts)) xs
   unfolding blockW
   own-block xs = rw (own-rows, own-length, own-class)
+
+  pub own-info : (is : List Info) → blockI ts is ≡ blockI (refsTo (map (λ t. t .table) ts)) is
+  unfolding blockI
+  own-info is = ap₂ (λ (rows : List Info) (k : ℕ). joinI (Bound (boundOf (joinAllI (rows ++ is)))) (Fixed k)) (infos-of ts) own-class
 
   pub own-exists : (at : ℕ) (f : Fold) (x : Known) → existsT at f ts x ≡ existsT at f (refsTo (map (λ t. t .table) ts)) x
   unfolding existsT existsK
@@ -106,10 +116,10 @@ unfolding joinAllW
 join-all-append [] xs h = absurd (omega arith)
 join-all-append (w ∷ ws) xs h = joins-append w ws xs
 
-tabs-length : (c : List ℕ) (n : ℕ) (ws : List ℕ) (i k : ℕ) → length (tabsAt c n ws i k) ≡ k
+tabs-length : (c : List ℕ) (n : ℕ) (s : Scope) (i k : ℕ) → length (tabsAt c n s i k) ≡ k
 unfolding tabsAt
-tabs-length c n ws i zero = refl
-tabs-length c n ws i (suc k) = ap suc (tabs-length c n ws (i + 1) k)
+tabs-length c n s i zero = refl
+tabs-length c n s i (suc k) = ap suc (tabs-length c n s (i + 1) k)
 
 weights-length : (us : List Table) → length (weights us) ≡ length us
 weights-length [] = refl
@@ -133,14 +143,14 @@ module _ (c : List ℕ) (n : ℕ) (s : Scope) where
   abbrev us : List Table
   us = tablesIn (openOf c n s)
 
-  pub number-of : (m : ℕ) → (m ≡ min (s .count) 4) × (m ≤ 4) → m ≡ length (tablesIn (openOf c n s))
-  number-of m l = l .0 ∙ sym (ap length (tables-in c n s) ∙ tabs-length c n (s .words) 0 (min (s .count) 4))
+  pub number-of : (m : ℕ) → (m ≡ min (countIn s) 4) × (m ≤ 4) → m ≡ length (tablesIn (openOf c n s))
+  number-of m l = l .0 ∙ sym (ap length (tables-in c n s) ∙ tabs-length c n s 0 (min (countIn s) 4))
 
   pub rows-begin : (i : Info) (w : Weighed) → i ≡ getD (rowsOf (tablesIn (openOf c n s))) 0 (Fixed 0) → w ≡ stopped (weighed i 1) → Joined (tablesIn (openOf c n s)) w 1
   rows-begin i w e f =
       record { is = stopped-alike _ _ (begin-at us w (rw e at (alike-stopped w (weighed i 1) f))) ∙ ap (λ (ws : List Weighed). stopped (joinAllW ws)) (sym (rows-are us)) }
 
-  pub rows-again : (m j : ℕ) (i : Info) (w x y : Weighed) → (m ≡ min (s .count) 4) × (m ≤ 4) → j < m → Joined (tablesIn (openOf c n s)) w j
+  pub rows-again : (m j : ℕ) (i : Info) (w x y : Weighed) → (m ≡ min (countIn s) 4) × (m ≤ 4) → j < m → Joined (tablesIn (openOf c n s)) w j
       → i ≡ getD (rowsOf (tablesIn (openOf c n s))) j (Fixed 0) → x ≡ stopped (weighed i 1) → y ≡ stopped (joinW w x) → Joined (tablesIn (openOf c n s)) y (j + 1)
   unfolding joinsW
   rows-again m j i w x y l h e f g k =
@@ -149,7 +159,7 @@ module _ (c : List ℕ) (n : ℕ) (s : Scope) where
       let b : Alike y (joinW w (getD (weights us) j (weighed (Fixed 0) 1))) = alike-trans y (joinW w x) _ (alike-stopped y _ k) (join-alike w w x _ (alike-refl w) a) in
       record { is = rw (add-one j) (stopped-alike _ _ (joins-alike y _ b (all-refl (drop (suc j) (weights us)))) ∙ (rw (drop-cons (weights us) j (weighed (Fixed 0) 1) z) at (e .is))) }
 
-  pub rows-done : (m j : ℕ) (w : Weighed) → (m ≡ min (s .count) 4) × (m ≤ 4) → m ≤ j → Joined (tablesIn (openOf c n s)) w j
+  pub rows-done : (m j : ℕ) (w : Weighed) → (m ≡ min (countIn s) 4) × (m ≤ 4) → m ≤ j → Joined (tablesIn (openOf c n s)) w j
       → stopped w ≡ stopped (joinAllW (rowsW (refsTo (tablesIn (openOf c n s)))))
   unfolding joinsW
   rows-done m j w l h e =
@@ -166,7 +176,7 @@ agg-is m k b p q w i j r e f g x y z =
     (alike-trans i (weighed (Bound b) q) _ (alike-stopped i _ x) (weighed-alike (Bound b) (Bound (boundOf (w .info))) q (1 + (m + w .size)) (ap Bound e) (omega arith)))
     (alike-stopped j _ y))
 
-module _ (c : List ℕ) (n : ℕ) (s : Scope) (o : Opening c n s) (m k : ℕ) (l : (m ≡ min (s .count) 4) × (m ≤ 4))
+module _ (c : List ℕ) (n : ℕ) (s : Scope) (o : Opening c n s) (m k : ℕ) (l : (m ≡ min (countIn s) 4) × (m ≤ 4))
     (a : k ≡ lubAll (classesOf (tablesIn (openOf c n s)))) (q : Weighed) (b : stopped q ≡ stopped (joinAllW (rowsW (refsTo (tablesIn (openOf c n s)))))) where
   abbrev refs : List TabRef
   refs = refsTo (tablesIn (openOf c n s))
@@ -205,6 +215,28 @@ module _ (c : List ℕ) (n : ℕ) (s : Scope) (o : Opening c n s) (m k : ℕ) (l
       z ∙ known-alike t (y .next) i (1 + (length refs + (x .values + y .values))) w _ (omega (arith, m-is))
       (block-is (classOf x ∷ choiceW (x .values) (classOf y) (weighed (Fixed 0) 1) ∷ []) row w (alike-stopped row _ e) f)
 
+-- WHAT IS KNOWN OF A BLOCK'S CLASS, without sizes.
+pub agg-info-is : (row : Info) (b k : ℕ) (r : Info) → b ≡ boundOf row → r ≡ joinI (Bound b) (Fixed k) → r ≡ joinI (Bound (boundOf row)) (Fixed k)
+agg-info-is row b k r e f = f ∙ ap (λ (z : ℕ). joinI (Bound z) (Fixed k)) e
+
+module _ (c : List ℕ) (n : ℕ) (s : Scope) (o : Opening c n s) (k : ℕ) (a : k ≡ lubAll (classesOf (tablesIn (openOf c n s))))
+    (q : Weighed) (b : stopped q ≡ stopped (joinAllW (rowsW (refsTo (tablesIn (openOf c n s)))))) where
+  info-by : (xs : List Weighed) → joinI (Bound (boundOf (joinsW q xs .info))) (Fixed k) ≡ blockI (refsTo (tablesIn (openOf c n s))) (map (λ w. w .info) xs)
+  unfolding stopped aggW joinW
+  info-by xs =
+      block-is c n s o (min (countIn s) 4) k (refl, omega arith) a q b xs (joinsW q xs) (stopped (aggW (min (countIn s) 4) k (joinsW q xs))) (alike-refl _) refl .info
+      ∙ block-info (refsTo (tablesIn (openOf c n s))) xs
+
+  pub exists-info-is : (x row r : Info) → row ≡ joinI (q .info) x → r ≡ joinI (Bound (boundOf row)) (Fixed k) → r ≡ blockI (refsTo (tablesIn (openOf c n s))) (x ∷ [])
+  unfolding joinsW joinW
+  exists-info-is x row r e f = f ∙ ap (λ (i : Info). joinI (Bound (boundOf i)) (Fixed k)) e ∙ info-by (weighed x 1 ∷ [])
+
+  pub single-info-is : (x y choice part row r : Info) → choice ≡ choiceI y (Fixed 0) → part ≡ joinI (q .info) x → row ≡ joinI part choice → r ≡ joinI (Bound (boundOf row)) (Fixed k)
+      → r ≡ blockI (refsTo (tablesIn (openOf c n s))) (x ∷ choiceI y (Fixed 0) ∷ [])
+  unfolding joinsW joinW
+  single-info-is x y choice part row r d e g f =
+      f ∙ ap (λ (i : Info). joinI (Bound (boundOf i)) (Fixed k)) (g ∙ ap₂ joinI e d) ∙ info-by (weighed x 1 ∷ weighed (choiceI y (Fixed 0)) 1 ∷ [])
+
 -- what VALUE, MAX and MIN read at one row
 pub row-is : (q p u none choice part r : Weighed) (x y : Known) → none ≡ stopped (weighed (Fixed 0) 1) → u ≡ classOf y → choice ≡ stopped (choiceW (x .values) u none)
     → p ≡ classOf x → part ≡ stopped (joinW q p) → r ≡ stopped (joinW part choice)
@@ -240,5 +272,7 @@ module _ (at : ℕ) (ts : List TabRef) (x : Known) (kind : ℕ) (e : kind ≡ ki
       single-broken h = rw (eq-eqb (kindOf (x .ty)) 1 (sym e ∙ f), judged-broken _ (sym g ∙ h))
 
 pub ruleset rowed = (rows-begin, rows-again, rows-done, agg-is, row-is, needs)
+
+pub ruleset informed = (agg-info-is, exists-info-is, single-info-is, needs)
 
 pub ruleset blocked = (exists-is, single-is, exists-bool, exists-other, single-other, single-ruled, single-broken, needs)

@@ -1,6 +1,6 @@
 -- The walk: one law for each place of its code. Its premises are what the code has found there.
 -- Assumes nothing.
-use Prim.Native.Nat.{ℕ, _+_, _-_, _≤_}
+use Prim.Native.Nat.{ℕ, _+_, _-_, _<_, _≤_}
 use mathlib.Core.Path.{_≡_, sym, ap, _∙_}
 use mathlib.Core.List.{List}
 use native.Mathlib.Omega.{arith}
@@ -54,6 +54,10 @@ module _ (c ss v : List ℕ) (f : Files) where
   child t u deep deep2 d at m w e l r =
       let h = here-ok v (f .n) (d - 1) m r in
       record { lent = w .lent; sized = e; not-many = omega arith; is-read = r; here = h .here; left = h .left }
+
+  -- a record's number fits 16 bits, and so does the next
+  pub here-fits : (t : List Scope) (deep d at : ℕ) → Ready c ss v f t deep d at → at < 65535
+  here-fits t deep d at w = omega arith
 
   module _ (t : List Scope) (deep d at : ℕ) (nd : Node) (w : Ready c ss v f t deep d at) (e : nd ≡ nodeAt v at) where
     same : (m : ℕ) → WasRead (parseValue v (f .n) (d - 1) m) → Ready c ss v f t deep (d - 1) m

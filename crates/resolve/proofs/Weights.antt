@@ -46,7 +46,7 @@ unfolding rowsW
 rows-info [] xs = refl
 rows-info (t ∷ ts) xs = ap (λ (is : List Info). t .table .row ∷ is) (rows-info ts xs)
 
-block-info : (ts : List TabRef) (xs : List Weighed) → blockW ts xs .info ≡ blockI ts (map infoOf xs)
+pub block-info : (ts : List TabRef) (xs : List Weighed) → blockW ts xs .info ≡ blockI ts (map infoOf xs)
 unfolding blockW blockI joinW
 block-info ts xs =
     ap (λ (i : Info). joinI (Bound (boundOf i)) (Fixed (tableClass ts))) (join-all-info (rowsW ts ++ xs) ∙ ap joinAllI (rows-info ts xs))

@@ -14,6 +14,7 @@ use Rattle.view.specs.declared.Node.{Node}
 use Rattle.view.specs.declared.Node.the-variants.{Exists, Single}
 use Rattle.scope.specs.Scopes.{Open}
 use Rattle.scope.specs.Table.{scopesOf, infosOf}
+use Rattle.scope.specs.Words.{countIn}
 use Rattle.scope.specs.Entry.{Among}
 use Rattle.scope.specs.declared.Scope.{Scope}
 use Rattle.resolve.specs.Resolve.{Outs, goods, bads, resolveAll, Resolved, select, refused as denied, resolveView}
@@ -49,7 +50,7 @@ pub record Ready (c ss v : List ℕ) (f : Files) (t : List Scope) (deep d at : �
 pub record Opening (c : List ℕ) (n : ℕ) (s : Scope) : Type 0 where
   pub long : 8 + 8 * n ≤ length c
   pub among : Among n s
-  pub some : 1 ≤ s .count
+  pub some : 1 ≤ countIn s
 
 -- the walk's answer there
 abbrev pub answerAt : List ℕ → List ℕ → Files → List Scope → ℕ → ℕ → ℕ → Typed

@@ -1,12 +1,14 @@
 // What is known of a block from what is known of its where and its value, over the entry of the block's scope.
 // The tables' row classes and their own classes are looked up in the catalogue.
 ghost use mathlib.Core.Path.{_≡_};
-ghost use Prim.Native.Nat.{ℕ, _+_, _*_, _≤_, _<_, min};
+ghost use Prim.Native.Nat.{_+_, _*_, _≤_};
 ghost use mathlib.Core.List.{[], _∷_};
 ghost use lib.ListN.{length};
-ghost use Rattle.class.specs.declared.Info.the-variants.{Fixed};
+ghost use Rattle.class.specs.Info.{boundOf, joinI, choiceI};
+ghost use Rattle.class.specs.declared.Info.the-variants.{Fixed, Bound};
 ghost use Rattle.scope.specs.Table.{openOf};
 ghost use Rattle.scope.specs.Entry.{tablesIn, Among};
+ghost use Rattle.resolve.specs.Infos.{blockI};
 ghost use Rattle.resolve.specs.Sizes.{weighed, joinsW, joinAllW, choiceW, rowsW};
 ghost use Rattle.resolve.specs.Steps.{classOf, stopped, aggW, refsTo, existsK, singleK, existsT, singleT};
 ghost use Rattle.resolve.specs.Claims.{Opening};
@@ -22,20 +24,12 @@ use crate::steps::weigh;
 use crate::totals::fold_type;
 use crate::totals::pick_type;
 
-// The number of a block's tables.
-fn tables_in(s: scope::Scope) -> usize
-    ensures { λ r. ⌜ (r ≡ min (s .count) 4) × (r ≤ 4) ⌝ }
-{
-    let count = s.count;
-    if count < 4 { count as usize } else { 4 }
-}
-
 // The row classes of a block's tables, joined in order.
 fn rows(s: scope::Scope, cat: &[u8], n: usize) -> Weighed
     requires { ⌜ (8 + 8 * n ≤ length (now cat)) × Among n s ⌝ }
     ensures { λ r. ⌜ stopped r ≡ stopped (joinAllW (rowsW (refsTo (tablesIn (openOf (now (cat .entry)) n s))))) ⌝ }
 {
-    let m = tables_in(s);
+    let m = scope::tables_in(s);
     let mut w = weigh(scope::row_info(s, cat, n, 0), 1);
     let mut j: usize = 1;
     while j < m {
@@ -46,7 +40,7 @@ fn rows(s: scope::Scope, cat: &[u8], n: usize) -> Weighed
 }
 
 // AGG over what is read at one row, of m tables, joined with the tables' class.
-fn agg(m: usize, k: u16, w: Weighed) -> Weighed
+fn agg(m: u16, k: u16, w: Weighed) -> Weighed
     ensures { λ r. ⌜ r ≡ stopped (aggW m k w) ⌝ }
 {
     let i = w.info;
@@ -59,7 +53,7 @@ fn exists(s: scope::Scope, cat: &[u8], n: usize, f: view::Fold, x: Known) -> Kno
     requires { ⌜ Opening (now cat) n s ⌝ }
     ensures { λ r. ⌜ r ≡ existsK f (refsTo (tablesIn (openOf (now (cat .entry)) n s))) x ⌝ }
 {
-    let m = tables_in(s);
+    let m = scope::tables_in(s) as u16;
     let row = joined(rows(s, cat, n), class_of(x));
     let w = agg(m, scope::block_class(s, cat, n), row);
     made(fold_type(f), x.next, plus(1, plus(m, x.values)), w)
@@ -78,21 +72,14 @@ fn single(s: scope::Scope, cat: &[u8], n: usize, t: cell::Type, x: Known, y: Kno
     requires { ⌜ Opening (now cat) n s ⌝ }
     ensures { λ r. ⌜ r ≡ singleK t (refsTo (tablesIn (openOf (now (cat .entry)) n s))) x y ⌝ }
 {
-    let m = tables_in(s);
+    let m = scope::tables_in(s) as u16;
     let row = at_row(rows(s, cat, n), x, y);
     let w = agg(m, scope::block_class(s, cat, n), row);
     made(t, y.next, plus(1, plus(m, plus(x.values, y.values))), w)
 }
 
 // EXISTS and COUNT.
-pub fn with_exists(
-    s: scope::Scope,
-    cat: &[u8],
-    n: usize,
-    at: usize,
-    f: view::Fold,
-    x: Known,
-) -> Typed
+pub fn with_exists(s: scope::Scope, cat: &[u8], n: usize, at: u16, f: view::Fold, x: Known) -> Typed
     requires { ⌜ Opening (now cat) n s ⌝ }
     ensures { λ r. ⌜ r ≡ existsT at f (refsTo (tablesIn (openOf (now (cat .entry)) n s))) x ⌝ }
 {
@@ -109,7 +96,7 @@ pub fn with_single(
     s: scope::Scope,
     cat: &[u8],
     n: usize,
-    at: usize,
+    at: u16,
     g: view::Pick,
     x: Known,
     y: Known,
@@ -127,4 +114,42 @@ pub fn with_single(
     } else {
         Typed::Refused(9, at)
     }
+}
+
+// What is known of a block's class: AGG is a tree even over a fixed class; k is the tables' class.
+fn agg_info(row: class::Info, k: u16) -> class::Info
+    ensures { λ r. ⌜ r ≡ joinI (Bound (boundOf row)) (Fixed k) ⌝ }
+{
+    let b = class::bound_of(row);
+    class::joined(class::Info::Bound(b), class::Info::Fixed(k))
+}
+
+// The same of EXISTS and COUNT, from what is known of the where's class.
+pub fn exists_info(s: scope::Scope, cat: &[u8], n: usize, x: class::Info) -> class::Info
+    requires { ⌜ Opening (now cat) n s ⌝ }
+    ensures { λ r. ⌜ r ≡ blockI (refsTo (tablesIn (openOf (now (cat .entry)) n s))) (x ∷ []) ⌝ }
+{
+    let q = rows(s, cat, n);
+    let i = q.info;
+    let k = scope::block_class(s, cat, n);
+    agg_info(class::joined(i, x), k)
+}
+
+// The same of VALUE, MAX and MIN, from what is known of the where's class and of the value's.
+pub fn single_info(
+    s: scope::Scope,
+    cat: &[u8],
+    n: usize,
+    x: class::Info,
+    y: class::Info,
+) -> class::Info
+    requires { ⌜ Opening (now cat) n s ⌝ }
+    ensures { λ r. ⌜ r ≡ blockI (refsTo (tablesIn (openOf (now (cat .entry)) n s))) (x ∷ choiceI y (Fixed 0) ∷ []) ⌝ }
+{
+    let q = rows(s, cat, n);
+    let i = q.info;
+    let k = scope::block_class(s, cat, n);
+    let choice = class::chosen(y, class::Info::Fixed(0));
+    let part = class::joined(i, x);
+    agg_info(class::joined(part, choice), k)
 }

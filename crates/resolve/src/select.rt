@@ -28,21 +28,21 @@ fn values(
     ensures { λ r. ⌜ r ≡ verdictAll (f .k) (infosOf t 1) (resolvedAll (tablesFrom (now (cat .entry)) (f .nc) (f .nc) 0) (scopesOf (now (cat .entry)) (f .nc) t 1) (many (parseValue (now (view .entry)) (f .n) 15) count at)) ⌝ }
 {
     let mut m = at;
-    let mut n: usize = 0;
+    let mut n: u16 = 0;
     let mut j: usize = 0;
     while j < count {
         match value(cat, starts, view, f, m, 15, t, 1) {
             Typed::Refused(i, p) => {
-                return Counted::Refused(i, p);
+                return Counted::Refused(i, p as usize);
             }
             Typed::Is(x) => {
                 n = plus(n, plus(x.values, x.classes));
-                m = x.next;
+                m = x.next as usize;
             }
         }
         j += 1;
     }
-    Counted::Records(n)
+    Counted::Records(n as usize)
 }
 
 // The root's block: its tables, its where, its values; last, that the where is boolean.
@@ -64,8 +64,8 @@ fn root(
     let s = o.scope;
     let t = [s; 16];
     match value(cat, starts, view, f, 1 + tables, 15, t, 1) {
-        Typed::Refused(i, p) => Verdict::Refused(i, p),
-        Typed::Is(x) => match values(cat, starts, view, f, x.next, t, count) {
+        Typed::Refused(i, p) => Verdict::Refused(i, p as usize),
+        Typed::Is(x) => match values(cat, starts, view, f, x.next as usize, t, count) {
             Counted::Refused(i, p) => Verdict::Refused(i, p),
             Counted::Records(pairs) => {
                 let ty = x.ty;
@@ -73,8 +73,8 @@ fn root(
                 if cell::kind_of(ty) == 1 {
                     Verdict::Fine(Sums {
                         info,
-                        values: x.values,
-                        classes: x.classes,
+                        values: x.values as usize,
+                        classes: x.classes as usize,
                         pairs,
                     })
                 } else {

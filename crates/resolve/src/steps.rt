@@ -9,20 +9,20 @@ use crate::Typed;
 use crate::Weighed;
 
 // At most 8,191.
-fn cap(n: usize) -> usize
+fn cap(n: u16) -> u16
     ensures { λ r. ⌜ r ≡ capped n ⌝ }
 {
     if n < 8191 { n } else { 8191 }
 }
 
-pub fn plus(m: usize, n: usize) -> usize
+pub fn plus(m: u16, n: u16) -> u16
     ensures { λ r. ⌜ r ≡ capped (m + n) ⌝ }
 {
     cap(cap(m) + cap(n))
 }
 
 // The size of a class's tree: one record where the class is fixed, else n.
-fn class_size(i: class::Info, n: usize) -> usize
+fn class_size(i: class::Info, n: u16) -> u16
     ensures { λ r. ⌜ r ≡ capped (sizedI i n) ⌝ }
 {
     match i {
@@ -31,7 +31,7 @@ fn class_size(i: class::Info, n: usize) -> usize
     }
 }
 
-pub fn weigh(i: class::Info, n: usize) -> Weighed
+pub fn weigh(i: class::Info, n: u16) -> Weighed
     ensures { λ r. ⌜ r ≡ stopped (weighed i n) ⌝ }
 {
     Weighed {
@@ -50,7 +50,7 @@ pub fn joined(x: Weighed, y: Weighed) -> Weighed
 }
 
 // A choice under a data tree of d records.
-pub fn chosen(d: usize, x: Weighed, y: Weighed) -> Weighed
+pub fn chosen(d: u16, x: Weighed, y: Weighed) -> Weighed
     ensures { λ r. ⌜ r ≡ stopped (choiceW d x y) ⌝ }
 {
     let i = x.info;
@@ -59,7 +59,7 @@ pub fn chosen(d: usize, x: Weighed, y: Weighed) -> Weighed
 }
 
 // How many records BIND or BINDC takes: m the value's class, d its data, n the body's class.
-fn bind_size(i: class::Info, m: usize, d: usize, n: usize) -> usize
+fn bind_size(i: class::Info, m: u16, d: u16, n: u16) -> u16
     ensures { λ r. ⌜ r ≡ capped (bindSize i m d n) ⌝ }
 {
     match i {
@@ -69,7 +69,7 @@ fn bind_size(i: class::Info, m: usize, d: usize, n: usize) -> usize
 }
 
 // LET: the value's data of d records, the value's class, the body's class.
-fn bound(d: usize, x: Weighed, y: Weighed) -> Weighed
+fn bound(d: u16, x: Weighed, y: Weighed) -> Weighed
     ensures { λ r. ⌜ r ≡ stopped (letW d x y) ⌝ }
 {
     let i = x.info;
@@ -87,7 +87,7 @@ pub fn class_of(x: Known) -> Weighed
     }
 }
 
-pub fn made(ty: cell::Type, next: usize, n: usize, w: Weighed) -> Known
+pub fn made(ty: cell::Type, next: u16, n: u16, w: Weighed) -> Known
     ensures { λ r. ⌜ r ≡ knownBy ty next n w ⌝ }
 {
     let i = w.info;
@@ -101,7 +101,7 @@ pub fn made(ty: cell::Type, next: usize, n: usize, w: Weighed) -> Known
 }
 
 // A constant or a reference.
-pub fn leaf(ty: cell::Type, i: class::Info, next: usize) -> Known
+pub fn leaf(ty: cell::Type, i: class::Info, next: u16) -> Known
     ensures { λ r. ⌜ r ≡ leafK ty i next ⌝ }
 {
     made(ty, next, 1, weigh(i, 1))
@@ -115,7 +115,7 @@ fn two(ty: cell::Type, x: Known, y: Known) -> Known
 }
 
 // BINOP.
-pub fn with_two(at: usize, op: u8, x: Known, y: Known) -> Typed
+pub fn with_two(at: u16, op: u8, x: Known, y: Known) -> Typed
     ensures { λ r. ⌜ r ≡ twoT at op x y ⌝ }
 {
     let s = x.ty;
@@ -133,7 +133,7 @@ fn negated(x: Known) -> Known
 }
 
 // NOT.
-pub fn with_not(at: usize, x: Known) -> Typed
+pub fn with_not(at: u16, x: Known) -> Typed
     ensures { λ r. ⌜ r ≡ notT at x ⌝ }
 {
     let t = x.ty;
@@ -165,7 +165,7 @@ fn either(t: cell::Type, c: Known, x: Known, y: Known) -> Known
 }
 
 // IF.
-pub fn with_if(at: usize, c: Known, x: Known, y: Known) -> Typed
+pub fn with_if(at: u16, c: Known, x: Known, y: Known) -> Typed
     ensures { λ r. ⌜ r ≡ ifT at c x y ⌝ }
 {
     let r = c.ty;
@@ -191,8 +191,8 @@ pub fn with_let(x: Known, y: Known) -> Known
 }
 
 // COL.
-pub fn of_column(at: usize, h: scope::Found) -> Typed
-    requires { ⌜ at < 65536 ⌝ }
+pub fn of_column(at: u16, h: scope::Found) -> Typed
+    requires { ⌜ at < 65535 ⌝ }
     ensures { λ r. ⌜ r ≡ colT at h ⌝ }
 {
     match h {
@@ -204,8 +204,8 @@ pub fn of_column(at: usize, h: scope::Found) -> Typed
 }
 
 // CLASSOF.
-pub fn of_class(at: usize, h: scope::Found) -> Typed
-    requires { ⌜ at < 65536 ⌝ }
+pub fn of_class(at: u16, h: scope::Found) -> Typed
+    requires { ⌜ at < 65535 ⌝ }
     ensures { λ r. ⌜ r ≡ classT at h ⌝ }
 {
     match h {

@@ -1,11 +1,11 @@
 // The open scopes in 64 words, four to a scope: the leaves of a tree look up rows, cells and locals in them.
 // A scope is opened in a copy.
 ghost use mathlib.Core.Path.{_≡_};
-ghost use Prim.Native.Nat.{_+_, _*_, _/_, _%_, _<_, _≤_};
+ghost use Prim.Native.Nat.{_+_, _*_, _%_, _<_, _≤_};
 ghost use lib.ListN.{length, set};
 ghost use Rattle.packed.specs.Packed.{openOf};
 ghost use Rattle.packed.specs.Constants.{constMeaning};
-ghost use Rattle.run.specs.Words.{kindIn, opIn, aIn, bIn, cIn};
+ghost use Rattle.run.specs.Words.{kindIn, opIn, aIn, bIn, cIn, placeIn};
 ghost use Rattle.run.specs.Env.{slotOf, rowOf, Scoped, LeafRight, SlotReady, DataRight, CellClassRight, RowClassRight, LocalRight, LocalClassRight};
 use crate::words::a_in;
 use crate::words::b_in;
@@ -73,7 +73,7 @@ fn row_class(cat: &[u8], store: &[u8], w: u64) -> u64
 }
 
 fn place_in(w: u64) -> usize
-    ensures { λ r. ⌜ (r ≡ w % 65536) × (r < 65536) ⌝ }
+    ensures { λ r. ⌜ (r ≡ placeIn w) × (r < 65536) ⌝ }
 {
     (w % 65536) as usize
 }

@@ -88,7 +88,7 @@ pub fn end_at(ends: &[u16; 8192], i: usize) -> u16
     if i < 8192 { ends[i] } else { 0 }
 }
 
-// The end of the end, twice and three times.
+// The end of the tree that stands where the tree at record i ends.
 fn second_end(ends: &[u16; 8192], i: usize) -> u16
     requires { ⌜ length (now ends) ≡ 8192 ⌝ }
     ensures { λ r. ⌜ r ≡ getD (now (ends .entry)) (getD (now (ends .entry)) i 0) 0 ⌝ }

@@ -1,7 +1,7 @@
 -- What a table has for a name: one law for each place of the code.
 -- Assumes nothing.
 use Prim.Native.Nat.{ℕ, _+_, _-_, _<_, _≤_}
-use mathlib.Core.Path.{_≡_, refl, sym, _∙_}
+use mathlib.Core.Path.{_≡_, refl, sym, ap, _∙_}
 use mathlib.Core.Bool.{Bool, true, false, cond, _||_}
 use mathlib.Core.List.{List, [], _∷_}
 use native.Mathlib.Omega.{arith}
@@ -11,73 +11,112 @@ use lib.Dec.{eqb}
 use Rattle.word.specs.Record.{kindAt, opAt, aAt, bAt}
 use Rattle.class.specs.Info.{infoBy}
 use Rattle.class.specs.declared.Info.{Info}
-use Rattle.class.specs.declared.Info.the-variants.{Fixed}
 use Rattle.cell.specs.declared.Type.{«Type» as Ty}
-use Rattle.catalogue.specs.Tables.{Table, Column, columnAt, colsFrom, tableAt}
+use Rattle.catalogue.specs.Tables.{Table, columnAt, colsFrom, tableAt}
 use Rattle.catalogue.proofs.Listed.{cols-next, cols-stop, cols-end}
 use Rattle.scope.specs.Scopes.{column, onlyOf, inCols, inTable}
-use Rattle.scope.specs.Match.{foundIn, plus}
-use Rattle.scope.specs.declared.Found.{Found}
+use Rattle.scope.specs.Match.{FirstIs, MatchIs}
 use Rattle.scope.specs.declared.Found.the-variants as F
-use Rattle.scope.proofs.Hits.{plus-none, plus-assoc, hit-append}
 
--- one column
-module _ (c : List ℕ) (i name x y k : ℕ) (row : Info) (h : Found) (w : ℕ) (e : w ≡ aAt c i) where
-  pub column-yes : (r : Found) (t : Ty) (j : Info) → w ≡ name → t ≡ columnAt c i .ty → j ≡ infoBy (opAt c i) (bAt c i) → r ≡ plus h (F.Column x y k t j row)
-      → r ≡ plus h (cond (eqb (aAt c i) name) (F.Column x y k (columnAt c i .ty) (columnAt c i .info) row) F.None)
-  unfolding columnAt
-  column-yes r t j f g l m = m ∙ rw (g, l, eq-eqb (aAt c i) name (sym e ∙ f))
+-- no column from record i up to record j has the name
+pub record Unnamed (c : List ℕ) (n i name j : ℕ) : Type 0 where
+  pub some : 1 ≤ i
+  pub from : i ≤ j
+  pub same : (a b k : ℕ) (t : Table) → inCols name a b t k (colsFrom c (n - i) i) ≡ inCols name a b t (k + (j - i)) (colsFrom c (n - j) j)
 
-  pub column-no : (w ≡ name → ⊥) → h ≡ plus h (cond (eqb (aAt c i) name) (F.Column x y k (columnAt c i .ty) (columnAt c i .info) row) F.None)
-  column-no f = rw (ne-eqb (aAt c i) name (λ z. f (e ∙ z))) (sym (plus-none h))
+module _ (c : List ℕ) (n i name : ℕ) where
+  pub named-begin : 1 ≤ i → Unnamed c n i name i
+  named-begin p = record { some = p; from = omega arith; same = λ a b k t. let e : k + (i - i) ≡ k = omega arith in rw e }
 
--- the columns of a table: what is left of them
-module _ (c : List ℕ) (n t name a b : ℕ) where
-  -- from record i on, with the number k
-  unfoldable pub colsLeft : ℕ → ℕ → Found
-  colsLeft k i = foundIn (Fixed 0) (onlyOf (inCols name a b (tableAt c n t) k (colsFrom c (n - i) i)))
+  module _ (j : ℕ) (u : Unnamed c n i name j) where
+    none-left : colsFrom c (n - j) j ≡ [] → FirstIs c n i name 0
+    unfolding inCols
+    none-left e = record { small = omega arith; past = λ z. absurd (z refl); says = λ a b k t. u .same a b k t ∙ rw e }
 
-  pub cols-begin : (h : Found) → plus h (foundIn (Fixed 0) (onlyOf (inCols name a b (tableAt c n t) 0 (tableAt c n t .cols)))) ≡ plus h (colsLeft 0 (t + 1))
-  unfolding colsLeft tableAt
-  cols-begin h = refl
+    pub named-done : n ≤ j → FirstIs c n i name 0
+    named-done h = none-left (cols-end c n j h)
 
-  one-col : (k i : ℕ) (row : Info) (x : Bool) → row ≡ infoBy (opAt c t) (bAt c t)
-      → foundIn (Fixed 0) (onlyOf (cond x (column a b k (tableAt c n t) (columnAt c i) ∷ []) [])) ≡ cond x (F.Column a b k (columnAt c i .ty) (columnAt c i .info) row) F.None
-  unfolding foundIn onlyOf tableAt
-  one-col k i row true e = rw e
-  one-col k i row false e = refl
+    module _ (w : ℕ) (y : w ≡ kindAt c j) where
+      pub named-stop : (w ≡ 2 → ⊥) → FirstIs c n i name 0
+      named-stop f = none-left (cols-stop c (n - j) j (λ z. f (y ∙ z)))
 
-  module _ (k i : ℕ) (r X : Found) (e : X ≡ plus r (colsLeft k i)) where
-    pub cols-again : (row : Info) (s : Found) (w : ℕ) → i < n → w ≡ kindAt c i → w ≡ 2 → row ≡ infoBy (opAt c t) (bAt c t)
-        → s ≡ plus r (cond (eqb (aAt c i) name) (F.Column a b k (columnAt c i .ty) (columnAt c i .info) row) F.None) → X ≡ plus s (colsLeft (k + 1) (i + 1))
-    unfolding colsLeft inCols
-    cols-again row s w h y f g j =
-        e ∙ rw (cols-next c n i h (sym y ∙ f), hit-append, one-col k i row (eqb (columnAt c i .cname) name) g) (unfold columnAt in rw (← plus-assoc, ← j))
+      module _ (h : j < n) (f : w ≡ 2) (x : ℕ) (z : x ≡ aAt c j) where
+        pub named-here : x ≡ name → FirstIs c n i name j
+        unfolding inCols
+        named-here g =
+            let p = u .some in
+            let l = u .from in
+            let e : eqb j 0 ≡ false = ne-eqb j 0 (λ o. absurd (omega arith)) in
+            record { small = omega arith; past = λ o. (l, h); says = λ a b k t. u .same a b k t ∙ rw (cols-next c n j h (sym y ∙ f), e) (unfold columnAt in rw (eq-eqb (aAt c j) name (sym z ∙ g))) }
 
-    pub cols-out : (w : ℕ) → w ≡ kindAt c i → (w ≡ 2 → ⊥) → r ≡ X
-    unfolding colsLeft inCols foundIn onlyOf
-    cols-out w y f = sym (e ∙ rw (cols-stop c (n - i) i (λ z. f (y ∙ z))) (plus-none r))
+        pub named-again : (x ≡ name → ⊥) → Unnamed c n i name (j + 1)
+        unfolding inCols
+        named-again g =
+            let l = u .from in
+            record { some = u .some; from = omega arith; same = λ a b k t. u .same a b k t ∙ (let e : k + (j + 1 - i) ≡ k + (j - i) + 1 = omega arith in rw (cols-next c n j h (sym y ∙ f), e) (unfold columnAt in rw (ne-eqb (aAt c j) name (λ o. g (z ∙ o))))) }
 
-    pub cols-done : n ≤ i → r ≡ X
-    unfolding colsLeft inCols foundIn onlyOf
-    cols-done f = sym (e ∙ rw (cols-end c n i f) (plus-none r))
+-- the match of a column
+pub column-made : (c : List ℕ) (i t a b k : ℕ) (ty : Ty) (j row : Info) → ty ≡ columnAt c i .ty → j ≡ infoBy (opAt c i) (bAt c i) → row ≡ infoBy (opAt c t) (bAt c t)
+    → F.Column a b k ty j row ≡ F.Column a b k (columnAt c i .ty) (columnAt c i .info) (infoBy (opAt c t) (bAt c t))
+unfolding columnAt
+column-made c i t a b k ty j row e f g = rw (e, f, g)
 
-  module _ (q : ℕ) (h : Found) where
-    pub table-out : n ≤ t → h ≡ plus h (foundIn (Fixed 0) (onlyOf (inTable name q a b (tableAt c n t))))
-    unfolding inTable tableAt
-    table-out e = let k : n - (t + 1) ≡ 0 = omega arith in sym (plus-none h) ∙ rw k (go (eqb q 0 || eqb (aAt c t) q) _)
-      where
-        go : (x : Bool) (u : Table) → plus h F.None ≡ plus h (foundIn (Fixed 0) (onlyOf (cond x (inCols name a b u 0 (colsFrom c 0 (t + 1))) [])))
-        go true u = unfold inCols colsFrom foundIn onlyOf in refl
-        go false u = unfold foundIn onlyOf in refl
+-- a table
+module _ (c : List ℕ) (n t name : ℕ) where
+  all-cols : (a b : ℕ) → inTable name 0 a b (tableAt c n t) ≡ inCols name a b (tableAt c n t) 0 (colsFrom c (n - (t + 1)) (t + 1))
+  unfolding inTable tableAt
+  all-cols a b = refl
 
-    pub table-yes : {own : ℕ} (r : Found) → own ≡ aAt c t → (eqb q 0 || eqb own q) ≡ true → r ≡ plus h (foundIn (Fixed 0) (onlyOf (inCols name a b (tableAt c n t) 0 (tableAt c n t .cols))))
-        → r ≡ plus h (foundIn (Fixed 0) (onlyOf (inTable name q a b (tableAt c n t))))
-    unfolding inTable tableAt
-    table-yes r e f g = g ∙ rw (rw e at f)
+  no-match : (q : ℕ) → ((a b : ℕ) → inTable name q a b (tableAt c n t) ≡ []) → MatchIs c n t name q 0
+  unfolding onlyOf
+  no-match q e = record { small = omega arith; past = λ z. absurd (z refl); says = λ a b. rw (e a b) }
 
-    pub table-no : {own : ℕ} → own ≡ aAt c t → (eqb q 0 || eqb own q) ≡ false → h ≡ plus h (foundIn (Fixed 0) (onlyOf (inTable name q a b (tableAt c n t))))
-    unfolding inTable tableAt foundIn onlyOf
-    table-no e f = rw (rw e at f) (sym (plus-none h))
+  module _ (i : ℕ) (f : FirstIs c n (t + 1) name i) where
+    pub column-none : i ≡ 0 → MatchIs c n t name 0 0
+    column-none e = no-match 0 (λ a b. all-cols a b ∙ f .says a b 0 (tableAt c n t) ∙ rw e)
 
-pub ruleset columns = (column-yes, column-no, cols-begin, cols-again, cols-out, cols-done, table-out, table-yes, table-no, needs)
+    module _ (z : i ≡ 0 → ⊥) (k : ℕ) (s : FirstIs c n (i + 1) name k) where
+      two-cols : (a b : ℕ) → inTable name 0 a b (tableAt c n t) ≡ column a b (i - (t + 1)) (tableAt c n t) (columnAt c i) ∷ inCols name a b (tableAt c n t) (i - (t + 1) + 1) (colsFrom c (n - (i + 1)) (i + 1))
+      two-cols a b = let e : 0 + (i - (t + 1)) ≡ i - (t + 1) = omega arith in all-cols a b ∙ f .says a b 0 (tableAt c n t) ∙ rw (ne-eqb i 0 z, e)
+
+      pub column-one : k ≡ 0 → MatchIs c n t name 0 i
+      unfolding onlyOf
+      column-one e =
+          let l = f .past z in
+          record { small = f .small; past = λ o. omega arith; says = λ a b. rw (two-cols a b, s .says a b (i - (t + 1) + 1) (tableAt c n t), e, ne-eqb i 0 z, ne-eqb i n (λ o. absurd (omega arith))) }
+
+      pub column-more : (k ≡ 0 → ⊥) → MatchIs c n t name 0 n
+      unfolding onlyOf
+      column-more e =
+          let l = f .past z in
+          record { small = omega arith; past = λ o. omega arith; says = λ a b. rw (two-cols a b, s .says a b (i - (t + 1) + 1) (tableAt c n t), ne-eqb k 0 e, ne-eqb n 0 (λ o. absurd (omega arith)), eq-eqb n n refl) }
+
+  module _ (q : ℕ) where
+    no-cols : n ≤ t → tableAt c n t .cols ≡ []
+    unfolding tableAt colsFrom
+    no-cols h = let k : n - (t + 1) ≡ 0 = omega arith in rw k
+
+    either : {A : Type 0} (x : Bool) (y : A) → cond x y y ≡ y
+    either true y = refl
+    either false y = refl
+
+    pub table-out : n ≤ t → MatchIs c n t name q 0
+    unfolding inTable inCols
+    table-out h = no-match q (λ a b. rw (no-cols h) (either (eqb q 0 || eqb (tableAt c n t .tname) q) []))
+
+    module _ (own : ℕ) (e : own ≡ aAt c t) where
+      meant : (a b : ℕ) → (eqb q 0 || eqb own q) ≡ true → inTable name q a b (tableAt c n t) ≡ inTable name 0 a b (tableAt c n t)
+      unfolding inTable tableAt
+      meant a b f = rw (rw e at f)
+
+      pub table-yes : (r : ℕ) → (eqb q 0 || eqb own q) ≡ true → MatchIs c n t name 0 r → MatchIs c n t name q r
+      table-yes r f m = record { small = m .small; past = m .past; says = λ a b. ap onlyOf (meant a b f) ∙ m .says a b }
+
+      not-meant : (a b : ℕ) → (eqb q 0 || eqb own q) ≡ false → inTable name q a b (tableAt c n t) ≡ []
+      unfolding inTable tableAt
+      not-meant a b f = rw (rw e at f)
+
+      pub table-no : (eqb q 0 || eqb own q) ≡ false → MatchIs c n t name q 0
+      table-no f = no-match q (λ a b. not-meant a b f)
+
+pub ruleset columns = (named-begin, named-done, named-stop, named-here, named-again, column-made, column-none, column-one, column-more, table-out, table-yes, table-no, needs)

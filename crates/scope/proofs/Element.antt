@@ -29,7 +29,7 @@ R = T.the-row
 
 -- its size in bytes, as an element
 abbrev pub stride : ℕ
-stride = 10
+stride = 8
 
 -- its machine value, which its relation tells
 abbrev pub val : Scope → Val
@@ -45,7 +45,7 @@ pub tells : Tells R (Is R) vals
 tells = LL.tells T.the-type T′.the-laws
 
 -- an index within a slice, times the size of an element, fits a u64
-pub offset-fits : (n i : ℕ) → i < n → n * 10 < 2 ^ 63 → i * 10 < 2 ^ 64
+pub offset-fits : (n i : ℕ) → i < n → n * 8 < 2 ^ 63 → i * 8 < 2 ^ 64
 offset-fits n i l room = omega arith
 
 -- an array of 16 may be lent as a slice

@@ -1,23 +1,23 @@
 -- What the only match of a list of matches is, put together from parts.
 -- Assumes nothing.
 use Prim.Native.Nat.{ℕ, _+_}
-use mathlib.Core.Path.{_≡_, refl, sym, _∙_}
+use mathlib.Core.Path.{_≡_, refl, sym, subst, _∙_}
 use mathlib.Core.Bool.{Bool, true, false, cond, _&&_, _||_}
 use mathlib.Core.List.{List, [], _∷_, _++_}
 use borrow.Author.Needs.{needs}
-use lib.Dec.{eqb}
+use lib.Dec.{T as Holds, eqb}
 use lib.ListN.{getD}
 use Rattle.class.specs.declared.Info.{Info}
 use Rattle.class.specs.declared.Info.the-variants.{Fixed}
 use Rattle.cell.specs.declared.Type.{«Type» as Ty}
 use Rattle.catalogue.specs.Tables.{Table, Column}
-use Rattle.scope.specs.Scopes.{Open, block, local, Hit, column, bound, onlyOf, inCols, inTable, inTabs, inScope}
+use Rattle.scope.specs.Scopes.{Open, block, local, Hit, column, bound, Only, none, one, more, onlyOf, inCols, inTable, inTabs, inScope}
 use Rattle.scope.specs.Table.{foundOf}
-use Rattle.scope.specs.Match.{foundIn, isFound, plus}
+use Rattle.scope.specs.Match.{foundIn, isFound, anyOf}
 use Rattle.scope.specs.declared.Found.{Found}
 use Rattle.scope.specs.declared.Found.the-variants as F
 
--- is_found and plus, as the code goes
+-- is_found, as the code goes
 pub found-column : {x : Found} {a b c : ℕ} {t : Ty} {i r : Info} → x ≡ F.Column a b c t i r → true ≡ isFound x
 unfolding isFound
 found-column e = rw e
@@ -34,60 +34,54 @@ pub found-more : {x : Found} → x ≡ F.Ambiguous → true ≡ isFound x
 unfolding isFound
 found-more e = rw e
 
-module _ (x y : Found) where
-  pub plus-both : {p q : Bool} → p ≡ isFound x → p ≡ true → q ≡ isFound y → q ≡ true → F.Ambiguous ≡ plus x y
-  unfolding plus
-  plus-both e f g h = rw (sym e ∙ f, sym g ∙ h)
+pub ruleset hits = (found-column, found-local, found-none, found-more, needs)
 
-  pub plus-first : {p q : Bool} → p ≡ isFound x → p ≡ true → q ≡ isFound y → q ≡ false → x ≡ plus x y
-  unfolding plus
-  plus-first e f g h = rw (sym e ∙ f, sym g ∙ h)
+-- THE ONLY MATCH of two lists: of neither, of one alone, of both
+pub only-none : (xs ys : List Hit) → onlyOf xs ≡ none → onlyOf (xs ++ ys) ≡ onlyOf ys
+unfolding onlyOf anyOf
+only-none [] ys e = refl
+only-none (x ∷ []) ys e = absurd (subst (λ (z : Only Hit). Holds (anyOf z)) e tt)
+only-none (x ∷ (y ∷ xs)) ys e = absurd (subst (λ (z : Only Hit). Holds (anyOf z)) e tt)
 
-  pub plus-second : {p : Bool} → p ≡ isFound x → p ≡ false → y ≡ plus x y
-  unfolding plus
-  plus-second e f = rw (sym e ∙ f)
+pub only-one : (xs ys : List Hit) (h : Hit) → onlyOf xs ≡ one h → onlyOf ys ≡ none → onlyOf (xs ++ ys) ≡ one h
+unfolding onlyOf anyOf
+only-one [] ys h e f = absurd (subst (λ (z : Only Hit). Holds (anyOf z)) (sym e) tt)
+only-one (x ∷ []) [] h e f = e
+only-one (x ∷ []) (y ∷ []) h e f = absurd (subst (λ (z : Only Hit). Holds (anyOf z)) f tt)
+only-one (x ∷ []) (y ∷ (z ∷ zs)) h e f = absurd (subst (λ (u : Only Hit). Holds (anyOf u)) f tt)
+only-one (x ∷ (y ∷ xs)) ys h e f = e
 
-pub ruleset hits = (found-column, found-local, found-none, found-more, plus-both, plus-first, plus-second, needs)
+abbrev isMore : Only Hit → Bool
+isMore none = false
+isMore (one h) = false
+isMore more = true
 
--- parts are put together in any grouping, and none adds nothing
-pub plus-none : (x : Found) → plus x F.None ≡ x
-unfolding plus isFound
-plus-none (F.Column a b c t i r) = refl
-plus-none (F.Local a t i) = refl
-plus-none F.None = refl
-plus-none F.Ambiguous = refl
+pub only-more : (xs ys : List Hit) → onlyOf xs ≡ more → onlyOf (xs ++ ys) ≡ more
+unfolding onlyOf
+only-more [] ys e = absurd (subst (λ (z : Only Hit). Holds (isMore z)) (sym e) tt)
+only-more (x ∷ []) ys e = absurd (subst (λ (z : Only Hit). Holds (isMore z)) (sym e) tt)
+only-more (x ∷ (y ∷ xs)) ys e = refl
 
-pub none-plus : (x : Found) → plus F.None x ≡ x
-unfolding plus isFound
-none-plus x = refl
+pub only-both : (xs ys : List Hit) → anyOf (onlyOf xs) ≡ true → anyOf (onlyOf ys) ≡ true → onlyOf (xs ++ ys) ≡ more
+unfolding onlyOf anyOf
+only-both [] ys e f = absurd (subst Holds (sym e) tt)
+only-both (x ∷ []) [] e f = absurd (subst Holds (sym f) tt)
+only-both (x ∷ []) (y ∷ ys) e f = refl
+only-both (x ∷ (y ∷ xs)) ys e f = refl
 
-pub plus-assoc : (x y z : Found) → plus (plus x y) z ≡ plus x (plus y z)
-plus-assoc x y z = go (isFound x) (isFound y) (isFound z) refl refl refl
-  where
-    go : (b d e : Bool) → isFound x ≡ b → isFound y ≡ d → isFound z ≡ e → plus (plus x y) z ≡ plus x (plus y z)
-    go false d e p q r = unfold plus in rw p
-    go true false e p q r = unfold plus in rw (p, q, p)
-    go true true false p q r = unfold plus isFound in rw (p, q, r, q)
-    go true true true p q r = unfold plus isFound in rw (p, q, r)
+-- a match of the first is one of both
+pub any-append : (xs ys : List Hit) → anyOf (onlyOf xs) ≡ true → anyOf (onlyOf (xs ++ ys)) ≡ true
+unfolding onlyOf anyOf
+any-append [] ys e = absurd (subst Holds (sym e) tt)
+any-append (x ∷ []) [] e = refl
+any-append (x ∷ []) (y ∷ ys) e = refl
+any-append (x ∷ (y ∷ xs)) ys e = refl
 
--- the only match of two lists: THE LAW that the loops live on
-module _ (i : Info) where
-  twice : (b : Bool) → F.Ambiguous ≡ cond b F.Ambiguous F.Ambiguous
-  twice true = refl
-  twice false = refl
-
-  pub hit-append : (xs ys : List Hit) → foundIn i (onlyOf (xs ++ ys)) ≡ plus (foundIn i (onlyOf xs)) (foundIn i (onlyOf ys))
-  unfolding foundIn onlyOf plus isFound
-  hit-append [] ys = refl
-  hit-append (column a b c t k ∷ []) [] = refl
-  hit-append (bound a t ∷ []) [] = refl
-  hit-append (column a b c t k ∷ []) (column d e f g h ∷ []) = refl
-  hit-append (bound a t ∷ []) (column d e f g h ∷ []) = refl
-  hit-append (column a b c t k ∷ []) (bound d e ∷ []) = refl
-  hit-append (bound a t ∷ []) (bound d e ∷ []) = refl
-  hit-append (column a b c t k ∷ []) (y ∷ (z ∷ zs)) = refl
-  hit-append (bound a t ∷ []) (y ∷ (z ∷ zs)) = refl
-  hit-append (x ∷ (y ∷ xs)) zs = twice (isFound (foundIn i (onlyOf zs)))
+pub any-none : (z : Only Hit) → anyOf z ≡ false → z ≡ none
+unfolding anyOf
+any-none none e = refl
+any-none (one h) e = absurd (subst Holds e tt)
+any-none more e = absurd (subst Holds e tt)
 
 -- the answer from all scopes' classes is that from the class of the scope where the matches stand
 module _ (is : List Info) (name q a : ℕ) where

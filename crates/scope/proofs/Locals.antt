@@ -1,6 +1,6 @@
--- The words of a local's entry: made as the code makes them, read as the code reads them, and what was made is read again.
+-- The words of an entry: a block's read; a local's made as the code makes them, read as the code reads them, and what was made is read again.
 -- Assumes nothing.
-use Prim.Native.Nat.{ℕ, _+_, _-_, _*_, _/_, _%_, _<_, _≤_}
+use Prim.Native.Nat.{ℕ, _+_, _*_, _/_, _%_, _<_, _≤_}
 use mathlib.Core.Path.{_≡_, refl, _∙_}
 use mathlib.Core.Bool.{cond}
 use mathlib.Core.List.{List}
@@ -9,6 +9,7 @@ use native.Mathlib.Decide.{decLt}
 use borrow.Author.Needs.{needs}
 use borrow.Author.Tests.{lt-ltb, le-ltb, ne-eqb}
 use lib.Dec.{eqb}
+use lib.ListN.{getD}
 use Rattle.class.specs.Info.{infoBy, boundOf}
 use Rattle.class.specs.declared.Info.{Info}
 use Rattle.class.specs.declared.Info.the-variants.{Fixed, Bound}
@@ -16,7 +17,7 @@ use Rattle.cell.specs.Types.{kindOf, digitsOf, scaleOf, formatOf}
 use Rattle.cell.specs.declared.Type.{«Type» as Ty}
 use Rattle.cell.specs.declared.Type.the-variants as T
 use Rattle.scope.specs.Scopes.{local}
-use Rattle.scope.specs.Words.{raised, lowered, markOf, kindScale, shapeOf, numberOf, wordsOf, typeFrom, nameIn, typeIn, infoIn}
+use Rattle.scope.specs.Words.{countIn, tableIn, raised, lowered, markOf, kindScale, shapeOf, numberOf, wordsOf, typeFrom, nameIn, typeIn, infoIn}
 use Rattle.scope.specs.Table.{openOf}
 use Rattle.scope.specs.Entry.{localScope}
 use Rattle.scope.specs.declared.Scope.{Scope}
@@ -26,7 +27,7 @@ raised-byte : (x : ℕ) → x < 256 → raised x ≡ x
 unfolding raised
 raised-byte x h = rw (lt-ltb x 256 h)
 
-raised-other : (x : ℕ) → 256 ≤ x → raised x ≡ 65536 + x
+raised-other : (x : ℕ) → 256 ≤ x → raised x ≡ 65536 * x
 unfolding raised
 raised-other x h = rw (le-ltb x 256 h)
 
@@ -34,7 +35,7 @@ lowered-word : (w : ℕ) → w < 65536 → lowered w ≡ w % 256
 unfolding lowered
 lowered-word w h = rw (lt-ltb w 65536 h)
 
-lowered-other : (w : ℕ) → 65536 ≤ w → lowered w ≡ w - 65536
+lowered-other : (w : ℕ) → 65536 ≤ w → lowered w ≡ w / 65536
 unfolding lowered
 lowered-other w h = rw (le-ltb w 65536 h)
 
@@ -43,7 +44,27 @@ lower-raise x = go (decLt x 256)
   where
     go : Dec (x < 256) → lowered (raised x) ≡ x
     go (yes h) = rw (raised-byte x h, lowered-word x (omega arith)) (omega arith)
-    go (no h) = rw (raised-other x (omega arith), lowered-other (65536 + x) (omega arith)) (omega arith)
+    go (no h) = rw (raised-other x (omega arith), lowered-other (65536 * x) (omega arith)) (omega arith)
+
+-- neither takes any of the bits that count tables
+raise-none : (x : ℕ) → raised x / 4096 % 16 ≡ 0
+raise-none x = go (decLt x 256)
+  where
+    go : Dec (x < 256) → raised x / 4096 % 16 ≡ 0
+    go (yes h) = rw (raised-byte x h) (omega arith)
+    go (no h) = rw (raised-other x (omega arith)) (omega arith)
+
+-- ---- a block's
+
+pub count-is : (s : Scope) (r : ℕ) → r ≡ getD (s .words) 3 0 / 4096 % 16 → r ≡ countIn s
+unfolding countIn
+count-is s r e = e
+
+pub table-is : (s : Scope) (j : ℕ) → getD (s .words) j 0 % 4096 ≡ tableIn s j
+unfolding tableIn
+table-is s j = refl
+
+pub ruleset counts = (count-is, table-is, needs)
 
 -- ---- made
 
@@ -204,24 +225,28 @@ module _ (m : ℕ) (t : Ty) (i : Info) where
   unfolding nameIn localScope wordsOf
   local-name = refl
 
+  local-count : countIn (localScope m t i) ≡ 0
+  unfolding countIn localScope wordsOf numberOf
+  local-count = raise-none (digitsOf t + formatOf t)
+
   pub local-type : typeIn (localScope m t i) ≡ t
-  unfolding typeIn localScope wordsOf
-  local-type = type-again t i
+  unfolding typeIn
+  local-type = rw local-count (unfold localScope wordsOf in type-again t i)
 
   pub local-info : infoIn (localScope m t i) ≡ i
-  unfolding infoIn localScope wordsOf
-  local-info = rw (shape-mark t i) (mark-again i)
+  unfolding infoIn
+  local-info = rw local-count (unfold localScope wordsOf in rw (shape-mark t i) (mark-again i))
 
   pub local-opens : (c : List ℕ) (n : ℕ) → openOf c n (localScope m t i) ≡ local m t
   unfolding openOf
-  local-opens c n = rw (local-name, local-type) (unfold localScope in refl)
+  local-opens c n = rw (local-name, local-type, local-count)
 
 -- a block's entry has neither type nor class
-module _ (s : Scope) (h : s .count ≡ 0 → ⊥) where
+module _ (s : Scope) (h : countIn s ≡ 0 → ⊥) where
   pub block-type : typeIn s ≡ T.Null
   unfolding typeIn
-  block-type = rw (ne-eqb (s .count) 0 h)
+  block-type = rw (ne-eqb (countIn s) 0 h)
 
   pub block-info : infoIn s ≡ Fixed 0
   unfolding infoIn
-  block-info = rw (ne-eqb (s .count) 0 h)
+  block-info = rw (ne-eqb (countIn s) 0 h)

@@ -1,6 +1,6 @@
 -- Entries made: a local's, and a block's as its tables are looked up one after the other; one law for each place of the code.
 -- Assumes nothing.
-use Prim.Native.Nat.{ℕ, suc, _+_, _-_, _<_, _≤_}
+use Prim.Native.Nat.{ℕ, suc, _+_, _-_, _*_, _%_, _<_, _≤_}
 use mathlib.Core.Path.{_≡_, refl, sym, _∙_}
 use mathlib.Core.Bool.{true, false}
 use mathlib.Core.List.{List, [], _∷_}
@@ -28,7 +28,7 @@ use Rattle.scope.specs.declared.Scope.{Scope}
 use Rattle.scope.specs.declared.Opened.{Opened}
 
 -- the structs that the code makes
-pub local-made : (m : ℕ) (t : Ty) (i : Info) (x y k : ℕ) → x ≡ shapeOf t i → y ≡ numberOf t → k ≡ boundOf i → record { count = 0; words = m ∷ x ∷ y ∷ k ∷ [] } ≡ localScope m t i
+pub local-made : (m : ℕ) (t : Ty) (i : Info) (x y k : ℕ) → x ≡ shapeOf t i → y ≡ numberOf t → k ≡ boundOf i → record { words = m ∷ x ∷ k ∷ y ∷ [] } ≡ localScope m t i
 unfolding localScope wordsOf
 local-made m t i x y k e f g = rw (e, f, g)
 
@@ -36,7 +36,7 @@ pub missing-made : (p : ℕ) (s : Scope) → s ≡ localScope 0 T.Null (Fixed 0)
 unfolding missingAt
 missing-made p s e = rw e
 
-pub opened-made : (ws : List ℕ) (k : ℕ) → record { fine = true; place = 0; scope = record { count = k; words = ws } } ≡ openedAs ws k
+pub opened-made : (ws : List ℕ) (k : ℕ) → record { fine = true; place = 0; scope = record { words = set ws 3 (getD ws 3 0 % 4096 + 4096 * k) } } ≡ openedAs ws k
 unfolding openedAs blockScope
 opened-made ws k = refl
 

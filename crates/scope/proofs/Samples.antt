@@ -13,7 +13,7 @@ use Rattle.cell.specs.declared.Type.the-variants as T
 use Rattle.catalogue.specs.Tables.{columnAt, colsFrom, tableAt}
 use Rattle.scope.specs.Scopes.{onlyOf, inCols, inTable, inTabs, inScope, nearest, find}
 use Rattle.scope.specs.Table.{tabsAt, openOf, scopesOf, infosOf, foundOf}
-use Rattle.scope.specs.Words.{raised, lowered, markOf, kindScale, shapeOf, numberOf, wordsOf, typeFrom, nameIn, typeIn, infoIn}
+use Rattle.scope.specs.Words.{countIn, tableIn, raised, lowered, markOf, kindScale, shapeOf, numberOf, wordsOf, typeFrom, nameIn, typeIn, infoIn}
 use Rattle.scope.specs.Entry.{localScope, blockScope}
 use Rattle.scope.specs.declared.Scope.{Scope}
 use Rattle.scope.specs.declared.Found.{Found}
@@ -91,5 +91,5 @@ pub names-found : map answer (
     ∷ F.None
     ∷ F.None
     ∷ []
-unfolding header le16 recBytes typeBy infoBy columnAt colsFrom tableAt onlyOf inCols inTable inTabs inScope nearest find tabsAt openOf scopesOf infosOf foundOf localScope blockScope wordsOf shapeOf kindScale markOf numberOf raised lowered kindOf digitsOf scaleOf formatOf boundOf typeFrom nameIn typeIn infoIn
+unfolding header le16 recBytes typeBy infoBy columnAt colsFrom tableAt onlyOf inCols inTable inTabs inScope nearest find tabsAt openOf scopesOf infosOf foundOf localScope blockScope wordsOf shapeOf kindScale markOf numberOf raised lowered kindOf digitsOf scaleOf formatOf boundOf typeFrom countIn tableIn nameIn typeIn infoIn
 names-found = refl

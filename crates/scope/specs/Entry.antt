@@ -1,9 +1,9 @@
 -- Entries of the table of open scopes: a local's, and a block's; and what is asked of a block's tables.
 -- Assumes nothing.
-use Prim.Native.Nat.{ℕ, _<_}
+use Prim.Native.Nat.{ℕ, _+_, _*_, _%_, _<_}
 use mathlib.Core.Bool.{true, false}
 use mathlib.Core.List.{List, [], map}
-use lib.ListN.{getD, length, replicate}
+use lib.ListN.{getD, length, replicate, set}
 use Rattle.word.specs.Buffer.{put}
 use Rattle.class.specs.declared.Info.{Info}
 use Rattle.class.specs.declared.Info.the-variants.{Fixed}
@@ -11,18 +11,18 @@ use Rattle.cell.specs.declared.Type.{«Type» as Ty}
 use Rattle.cell.specs.declared.Type.the-variants as T
 use Rattle.catalogue.specs.Tables.{Table, TabRef}
 use Rattle.scope.specs.Scopes.{Open, block, local}
-use Rattle.scope.specs.Words.{wordsOf}
+use Rattle.scope.specs.Words.{tableIn, wordsOf}
 use Rattle.scope.specs.Blocks.{Tabs, all, missing}
 use Rattle.scope.specs.declared.Scope.{Scope}
 use Rattle.scope.specs.declared.Opened.{Opened}
 
 -- a local's entry
 unfoldable pub localScope : ℕ → Ty → Info → Scope
-localScope m t i = record { count = 0; words = wordsOf m t i }
+localScope m t i = record { words = wordsOf m t i }
 
--- the entry of so many tables, by the numbers of their records
+-- the entry of so many tables, by the numbers of their records; how many they are stands above the last
 unfoldable pub blockScope : List ℕ → ℕ → Scope
-blockScope ws k = record { count = k; words = ws }
+blockScope ws k = record { words = set ws 3 (getD ws 3 0 % 4096 + 4096 * k) }
 
 -- the code's answer: a block opened, or the place of the first table that is not in the catalogue
 unfoldable pub openedAs : List ℕ → ℕ → Opened
@@ -54,4 +54,4 @@ classesOf ts = map (λ t. t .tclass) ts
 
 -- the records that an entry names are among n
 pub record Among (n : ℕ) (s : Scope) : Type 0 where
-  pub below : (j : ℕ) → getD (s .words) j 0 < n
+  pub below : (j : ℕ) → tableIn s j < n

@@ -1,4 +1,4 @@
--- The definitions of names: Scopes has the rule, Words the words of a local's entry, Table what an entry says, Match parts of an answer, Blocks a block's tables, Entry an entry made.
+-- The definitions of names: Scopes has the rule, Words the words of an entry, Table what an entry says, Match parts of an answer, Blocks a block's tables, Entry an entry made.
 -- Assumes nothing.
 pub mod Scopes
 pub mod Words

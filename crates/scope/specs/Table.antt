@@ -9,23 +9,23 @@ use Rattle.class.specs.declared.Info.{Info}
 use Rattle.class.specs.declared.Info.the-variants.{Fixed}
 use Rattle.catalogue.specs.Tables.{Table, tableAt}
 use Rattle.scope.specs.Scopes.{Open, block, local, Hit, column, bound, Only, none, one, more}
-use Rattle.scope.specs.Words.{nameIn, typeIn, infoIn}
+use Rattle.scope.specs.Words.{countIn, tableIn, nameIn, typeIn, infoIn}
 use Rattle.scope.specs.declared.Scope.{Scope}
 use Rattle.scope.specs.declared.Found.{Found}
 use Rattle.scope.specs.declared.Found.the-variants as F
 
--- so many tables, whose record numbers stand from i on
-unfoldable pub tabsAt : List ℕ → ℕ → List ℕ → ℕ → ℕ → List Table
-tabsAt c n ws i zero = []
-tabsAt c n ws i (suc k) = tableAt c n (getD ws i 0) ∷ tabsAt c n ws (i + 1) k
+-- so many tables of an entry, from number i on
+unfoldable pub tabsAt : List ℕ → ℕ → Scope → ℕ → ℕ → List Table
+tabsAt c n s i zero = []
+tabsAt c n s i (suc k) = tableAt c n (tableIn s i) ∷ tabsAt c n s (i + 1) k
 
 -- what an entry says
 unfoldable pub openOf : List ℕ → ℕ → Scope → Open
-openOf c n s = cond (eqb (s .count) 0) (local (nameIn s) (typeIn s)) (block (tabsAt c n (s .words) 0 (min (s .count) 4)))
+openOf c n s = cond (eqb (countIn s) 0) (local (nameIn s) (typeIn s)) (block (tabsAt c n s 0 (min (countIn s) 4)))
 
 -- no entry
 abbrev pub blank : Scope
-blank = record { count = 0; words = 0 ∷ 0 ∷ 0 ∷ 0 ∷ [] }
+blank = record { words = 0 ∷ 0 ∷ 0 ∷ 0 ∷ [] }
 
 -- the open scopes, the innermost first: d entries of the table
 unfoldable pub scopesOf : List ℕ → ℕ → List Scope → ℕ → List Open

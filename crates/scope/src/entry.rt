@@ -14,10 +14,10 @@ ghost use Rattle.class.specs.Class.{lubAll};
 ghost use Rattle.class.specs.declared.Info.the-variants.{Fixed};
 use crate::Opened;
 use crate::Scope;
-use crate::four;
-use crate::index;
 use crate::words::number_of;
 use crate::words::shape_of;
+use crate::words::table_in;
+use crate::words::tables_in;
 
 // A local: its name, its type, what is known of its class.
 pub fn local_scope(name: u16, ty: cell::Type, info: class::Info) -> Scope
@@ -26,8 +26,8 @@ pub fn local_scope(name: u16, ty: cell::Type, info: class::Info) -> Scope
     let shape = shape_of(ty, info);
     let number = number_of(ty);
     let k = class::bound_of(info);
-    let words = [name, shape, number, k];
-    Scope { count: 0, words }
+    let words = [name, shape, k, number];
+    Scope { words }
 }
 
 // A table isn't in the catalogue.
@@ -43,14 +43,13 @@ fn missing(place: usize) -> Opened
 }
 
 // A block of so many tables, by the numbers of their records.
-fn opened(words: [u16; 4], count: usize) -> Opened
+fn opened(places: [u16; 4], count: usize) -> Opened
     requires { ⌜ count ≤ 4 ⌝ }
-    ensures { λ r. ⌜ r ≡ openedAs words count ⌝ }
+    ensures { λ r. ⌜ r ≡ openedAs places count ⌝ }
 {
-    let scope = Scope {
-        count: count as u16,
-        words,
-    };
+    let mut words = places;
+    words[3] = places[3] % 4096 + 4096 * count as u16;
+    let scope = Scope { words };
     Opened {
         fine: true,
         place: 0,
@@ -133,9 +132,8 @@ pub fn row_info(s: Scope, cat: &[u8], n: usize, j: usize) -> class::Info
     requires { ⌜ Among n s ⌝ }
     ensures { λ r. ⌜ r ≡ getD (rowsOf (tablesIn (openOf (now (cat .entry)) n s))) j (Fixed 0) ⌝ }
 {
-    let words = s.words;
-    if j < four(s.count) {
-        let t = index(words[j]);
+    if j < tables_in(s) {
+        let t = table_in(s, j);
         return catalogue::info_at(cat, t);
     }
     class::Info::Fixed(0)
@@ -147,9 +145,8 @@ pub fn table_class_at(s: Scope, cat: &[u8], n: usize, j: usize) -> u16
     requires { ⌜ Among n s ⌝ }
     ensures { λ r. ⌜ r ≡ getD (classesOf (tablesIn (openOf (now (cat .entry)) n s))) j 0 ⌝ }
 {
-    let words = s.words;
-    if j < four(s.count) {
-        let t = index(words[j]);
+    if j < tables_in(s) {
+        let t = table_in(s, j);
         return word::c_at(cat, t);
     }
     0
@@ -162,7 +159,7 @@ pub fn block_class(s: Scope, cat: &[u8], n: usize) -> u16
     ensures { λ r. ⌜ r ≡ lubAll (classesOf (tablesIn (openOf (now (cat .entry)) n s))) ⌝ }
 {
     let mut k: u16 = 0;
-    let mut j = four(s.count);
+    let mut j = tables_in(s);
     while 0 < j {
         j -= 1;
         let own = table_class_at(s, cat, n, j);

@@ -12,25 +12,26 @@ pub use entry::table_class_at;
 pub use entry::table_number;
 pub use lent::look_up;
 pub use lent::push;
+pub use words::count_in;
+pub use words::tables_in;
 ghost use mathlib.Core.Path.{_≡_};
-ghost use mathlib.Core.Bool.{true, false, cond};
-ghost use Prim.Native.Nat.{_+_, _*_, _≤_, _<_, min};
+ghost use Prim.Native.Nat.{_+_, _-_, _*_, _≤_, _<_};
 ghost use lib.ListN.{length, set};
-ghost use lib.Dec.{eqb};
 ghost use Rattle.class.specs.declared.Info.the-variants.{Fixed};
-ghost use Rattle.word.specs.Record.{aAt};
-ghost use Rattle.catalogue.specs.Tables.{columnAt, tableAt};
-ghost use Rattle.scope.specs.Scopes.{onlyOf, inCols, inTable, inTabs, inScope, find};
+ghost use Rattle.class.specs.Info.{infoBy};
+ghost use Rattle.word.specs.Record.{opAt, bAt};
+ghost use Rattle.catalogue.specs.Tables.{columnAt};
+ghost use Rattle.scope.specs.Scopes.{onlyOf, inTabs, inScope, find};
 ghost use Rattle.scope.specs.Table.{tabsAt, openOf, scopesOf, infosOf, foundOf};
-ghost use Rattle.scope.specs.Match.{foundIn, isFound, plus};
+ghost use Rattle.scope.specs.Match.{foundIn, isFound, FirstIs, MatchIs, AnyIs};
 ghost use Rattle.scope.specs.Words.{infoIn};
 use words::info_from;
+use words::table_in;
 use words::type_from;
 
-// One entry, ten bytes: a block's tables, 1 to 4, by the numbers of their records in the catalogue; or, where there are none,
+// One entry, eight bytes: a block's tables, 1 to 4, by the numbers of their records in the catalogue; or, where there are none,
 // a local: its name, its type and what is known of its class, as specs/Words has them.
 pub struct Scope {
-    pub count: u16,
     pub words: [u16; 4],
 }
 
@@ -50,12 +51,6 @@ pub struct Opened {
     pub scope: Scope,
 }
 
-fn index(x: u16) -> usize
-    ensures { λ r. ⌜ r ≡ x ⌝ }
-{
-    x as usize
-}
-
 // Whether there is a match, or more than one.
 fn is_found(x: Found) -> bool
     ensures { λ r. ⌜ r ≡ isFound x ⌝ }
@@ -68,106 +63,108 @@ fn is_found(x: Found) -> bool
     }
 }
 
-// What two parts of one scope have for a name: two matches are ambiguous.
-fn plus(x: Found, y: Found) -> Found
-    ensures { λ r. ⌜ r ≡ plus x y ⌝ }
+// The first record, from i on, of a column of this table that has the name; 0 where there is none.
+fn first_named(cat: &[u8], n: usize, i: usize, name: u16) -> usize
+    requires { ⌜ 8 + 8 * n ≤ length (now cat) ⌝ }
+    requires { ⌜ 1 ≤ i ⌝ }
+    ensures { λ r. ⌜ FirstIs (now (cat .entry)) n i name r ⌝ }
 {
-    if is_found(x) {
-        if is_found(y) {
-            return Found::Ambiguous;
+    let mut j = i;
+    while j < n {
+        if word::kind_at(cat, j) != 2 {
+            return 0;
         }
-        return x;
+        if word::a_at(cat, j) == name {
+            return j;
+        }
+        j += 1;
     }
-    y
+    0
 }
 
-// One column more: h is what was found before it.
-fn in_column(
-    cat: &[u8],
-    i: usize,
-    name: u16,
-    a: u16,
-    b: u16,
-    c: u16,
-    row: class::Info,
-    h: Found,
-) -> Found
-    requires { ⌜ 8 + 8 * i + 8 ≤ length (now cat) ⌝ }
-    ensures { λ r. ⌜ r ≡ plus h (cond (eqb (aAt (now (cat .entry)) i) name) (Found.Column a b c (columnAt (now (cat .entry)) i .ty) (columnAt (now (cat .entry)) i .info) row) Found.None) ⌝ }
-{
-    if word::a_at(cat, i) == name {
-        let ty = catalogue::type_at(cat, i);
-        let info = catalogue::info_at(cat, i);
-        return plus(h, Found::Column(a, b, c, ty, info, row));
-    }
-    h
-}
-
-// The columns of the table of record t; h is what was found before them.
-fn in_cols(cat: &[u8], n: usize, t: usize, name: u16, a: u16, b: u16, h: Found) -> Found
-    requires { ⌜ (8 + 8 * n ≤ length (now cat)) × (n ≤ 2080) ⌝ }
+// The record of the one column of the table of record t that has the name; 0 where there is none, n where there are more.
+fn in_cols(cat: &[u8], n: usize, t: usize, name: u16) -> usize
+    requires { ⌜ 8 + 8 * n ≤ length (now cat) ⌝ }
     requires { ⌜ t < n ⌝ }
-    ensures { λ r. ⌜ r ≡ plus h (foundIn (Fixed 0) (onlyOf (inCols name a b (tableAt (now (cat .entry)) n t) 0 (tableAt (now (cat .entry)) n t .cols)))) ⌝ }
+    ensures { λ r. ⌜ MatchIs (now (cat .entry)) n t name 0 r ⌝ }
 {
-    let row = catalogue::info_at(cat, t);
-    let mut r = h;
-    let mut i = t + 1;
-    let mut c: u16 = 0;
-    while i < n {
-        if word::kind_at(cat, i) != 2 {
-            return r;
-        }
-        r = in_column(cat, i, name, a, b, c, row, r);
-        i += 1;
-        c += 1;
+    let i = first_named(cat, n, t + 1, name);
+    if i == 0 {
+        return 0;
     }
-    r
+    let k = first_named(cat, n, i + 1, name);
+    if k == 0 {
+        return i;
+    }
+    n
 }
 
-// The table of record t, if a qualified name may mean it; h is what was found before it.
-fn in_table(cat: &[u8], n: usize, t: usize, name: u16, q: u16, a: u16, b: u16, h: Found) -> Found
-    requires { ⌜ (8 + 8 * n ≤ length (now cat)) × (n ≤ 2080) ⌝ }
-    ensures { λ r. ⌜ r ≡ plus h (foundIn (Fixed 0) (onlyOf (inTable name q a b (tableAt (now (cat .entry)) n t)))) ⌝ }
+// The same, if a qualified name may mean the table.
+fn in_table(cat: &[u8], n: usize, t: usize, name: u16, q: u16) -> usize
+    requires { ⌜ 8 + 8 * n ≤ length (now cat) ⌝ }
+    ensures { λ r. ⌜ MatchIs (now (cat .entry)) n t name q r ⌝ }
 {
     if n <= t {
-        return h;
+        return 0;
     }
     let own = word::a_at(cat, t);
     if (q == 0) | (own == q) {
-        return in_cols(cat, n, t, name, a, b, h);
+        return in_cols(cat, n, t, name);
     }
-    h
+    0
 }
 
-// At most four.
-fn four(x: u16) -> usize
-    ensures { λ r. ⌜ (r ≡ min x 4) × (r ≤ 4) ⌝ }
+// The match of the column of record i, which is one of the table of record t: a scopes outward, table b of its block.
+fn column_at(cat: &[u8], t: usize, i: usize, a: u16, b: u16) -> Found
+    requires { ⌜ ((t < i) × (i ≤ 2080)) × (8 + 8 * i + 8 ≤ length (now cat)) ⌝ }
+    ensures { λ r. ⌜ r ≡ Found.Column a b (i - (t + 1)) (columnAt (now (cat .entry)) i .ty) (columnAt (now (cat .entry)) i .info) (infoBy (opAt (now (cat .entry)) t) (bAt (now (cat .entry)) t)) ⌝ }
 {
-    if x < 4 { x as usize } else { 4 }
+    let ty = catalogue::type_at(cat, i);
+    let info = catalogue::info_at(cat, i);
+    let row = catalogue::info_at(cat, t);
+    let first = t + 1;
+    let c = (i - first) as u16;
+    Found::Column(a, b, c, ty, info, row)
+}
+
+// Whether a table of a block, from number i on, has the name.
+fn any_from(s: Scope, count: usize, cat: &[u8], n: usize, name: u16, q: u16, i: usize) -> bool
+    requires { ⌜ 8 + 8 * n ≤ length (now cat) ⌝ }
+    requires { ⌜ count ≤ 4 ⌝ }
+    ensures { λ r. ⌜ AnyIs (now (cat .entry)) n s count name q i r ⌝ }
+{
+    let mut j = i;
+    while j < count {
+        let t = table_in(s, j);
+        let k = in_table(cat, n, t, name, q);
+        if k != 0 {
+            return true;
+        }
+        j += 1;
+    }
+    false
 }
 
 // The tables of a block, by the numbers of their records.
-fn in_block(
-    tables: [u16; 4],
-    count: usize,
-    cat: &[u8],
-    n: usize,
-    name: u16,
-    q: u16,
-    a: u16,
-) -> Found
+fn in_block(s: Scope, count: usize, cat: &[u8], n: usize, name: u16, q: u16, a: u16) -> Found
     requires { ⌜ (8 + 8 * n ≤ length (now cat)) × (n ≤ 2080) ⌝ }
     requires { ⌜ count ≤ 4 ⌝ }
-    ensures { λ r. ⌜ r ≡ foundIn (Fixed 0) (onlyOf (inTabs name q a 0 (tabsAt (now (cat .entry)) n tables 0 count))) ⌝ }
+    ensures { λ r. ⌜ r ≡ foundIn (Fixed 0) (onlyOf (inTabs name q a 0 (tabsAt (now (cat .entry)) n s 0 count))) ⌝ }
 {
-    let mut r = Found::None;
     let mut j: usize = 0;
     while j < count {
-        let t = index(tables[j]);
-        r = in_table(cat, n, t, name, q, a, j as u16, r);
+        let t = table_in(s, j);
+        let i = in_table(cat, n, t, name, q);
+        if i != 0 {
+            let more = any_from(s, count, cat, n, name, q, j + 1);
+            if (i == n) | more {
+                return Found::Ambiguous;
+            }
+            return column_at(cat, t, i, a, j as u16);
+        }
         j += 1;
     }
-    r
+    Found::None
 }
 
 // What one entry has for a name.
@@ -175,18 +172,18 @@ fn in_scope(s: Scope, cat: &[u8], n: usize, name: u16, q: u16, a: u16) -> Found
     requires { ⌜ (8 + 8 * n ≤ length (now cat)) × (n ≤ 2080) ⌝ }
     ensures { λ r. ⌜ r ≡ foundIn (infoIn s) (onlyOf (inScope name q a (openOf (now (cat .entry)) n s))) ⌝ }
 {
-    let count = s.count;
-    let words = s.words;
+    let count = count_in(s);
     if count == 0 {
+        let words = s.words;
         let own = words[0];
         if (q == 0) & (own == name) {
-            let ty = type_from(words[1], words[2]);
-            let info = info_from(words[1], words[3]);
+            let ty = type_from(words[1], words[3]);
+            let info = info_from(words[1], words[2]);
             return Found::Local(a, ty, info);
         }
         return Found::None;
     }
-    in_block(words, four(count), cat, n, name, q, a)
+    in_block(s, tables_in(s), cat, n, name, q, a)
 }
 
 // The table with one more scope open: it is lent to `push` for one call.

@@ -1,9 +1,42 @@
-// The words of a local's entry: made of its type and what is known of its class, and read again.
-// The definitions are in specs/Words. Every function is total.
+// The words of an entry: a block's read, a local's made of its type and what is known of its class, and read again.
+// The definitions are in specs/Words.
 ghost use mathlib.Core.Path.{_≡_};
-ghost use Prim.Native.Nat.{_/_, _%_, _≤_, _<_};
+ghost use Prim.Native.Nat.{_/_, _%_, _≤_, _<_, min};
 ghost use Rattle.class.specs.Info.{infoBy};
-ghost use Rattle.scope.specs.Words.{kindScale, markOf, numberOf, shapeOf, typeFrom};
+ghost use Rattle.scope.specs.Words.{countIn, tableIn, kindScale, markOf, numberOf, shapeOf, typeFrom};
+use crate::Scope;
+
+// The top four bits of a word.
+fn top(x: u16) -> u16
+    ensures { λ r. ⌜ (r ≡ x / 4096 % 16) × (r < 16) ⌝ }
+{
+    x / 4096
+}
+
+// The number of a block's tables; 0 for a local.
+pub fn count_in(s: Scope) -> u16
+    ensures { λ r. ⌜ (r ≡ countIn s) × (r < 16) ⌝ }
+{
+    let words = s.words;
+    top(words[3])
+}
+
+// The number of a block's tables, at most four.
+pub fn tables_in(s: Scope) -> usize
+    ensures { λ r. ⌜ (r ≡ min (countIn s) 4) × (r ≤ 4) ⌝ }
+{
+    let count = count_in(s);
+    if count < 4 { count as usize } else { 4 }
+}
+
+// The record of table j of a block.
+pub fn table_in(s: Scope, j: usize) -> usize
+    requires { ⌜ j < 4 ⌝ }
+    ensures { λ r. ⌜ r ≡ tableIn s j ⌝ }
+{
+    let words = s.words;
+    (words[j] % 4096) as usize
+}
 
 fn wide(x: u8) -> u16
     ensures { λ r. ⌜ (r ≡ x) × (r < 256) ⌝ }

@@ -276,7 +276,7 @@ module _ (c ss v : List ℕ) (f : Files) (t : List Scope) (deep d at : ℕ) (w :
     part ts h m i j =
         let k = found-fine ss _ ts o p h in
         let l : deep < 16 = omega (arith, w .ready .left, w .ready .not-many) in
-        let b = block-opened c (f .nc) (f .tables) ss v (at + 1) count o (w .ready .lent .starts) (few asked refl) p k in
+        let b = block-opened c (f .nc) (f .tables) ss v (at + 1) count o (w .ready .lent .starts) (w .ready .lent .cat-few) (few asked refl) p k in
         inner m u (o .scope) q (subst Narrow (sym (b .untyped)) narrow-null) _
         (block-scopes c (f .nc) t u deep (o .scope) q l (w .ready .sized) _ b ∙ ap (λ (z : Tabs). opened (refsOf z) ∷ scopesOf c (f .nc) t deep) h) i j
 
@@ -285,7 +285,7 @@ module _ (c ss v : List ℕ) (f : Files) (t : List Scope) (deep d at : ℕ) (w :
     made ts h a =
         let k = found-fine ss _ ts o p h in
         let l : deep < 16 = omega (arith, w .ready .left, w .ready .not-many) in
-        let b = block-opened c (f .nc) (f .tables) ss v (at + 1) count o (w .ready .lent .starts) (few asked refl) p k in
+        let b = block-opened c (f .nc) (f .tables) ss v (at + 1) count o (w .ready .lent .starts) (w .ready .lent .cat-few) (few asked refl) p k in
         let n = within asked refl in
         record {
           tabled = record {

@@ -1,7 +1,7 @@
 -- The leaves of the writer: one law for each place of their code. Its premises are what the code has found there.
 -- Assumes nothing.
 use Prim.Native.Nat.{ℕ, zero, suc, _+_, _*_, _<_, _≤_}
-use mathlib.Core.Path.{_≡_, refl, sym, ap, ap₂, _∙_, subst}
+use mathlib.Core.Path.{_≡_, refl, sym, ap, _∙_, subst}
 use mathlib.Core.Bool.{Bool, true, false}
 use mathlib.Core.List.{List, [], _∷_, _++_}
 use native.Mathlib.Omega.{arith}
@@ -14,6 +14,7 @@ use Rattle.word.specs.declared.Rec.{Rec}
 use Rattle.word.proofs.Laws.{length-rec, room-rec}
 use Rattle.word.proofs.Writing.{front, after, Todo, todo-all, todo-same, todo-less, todo-none}
 use Rattle.class.specs.declared.Info.{Info}
+use Rattle.class.specs.declared.Info.the-variants.{Fixed}
 use Rattle.cell.specs.Res.{Res, stuck, done, orElse, nth}
 use Rattle.cell.specs.Types.{digitsOf, scaleOf, sameType, judgedOf}
 use Rattle.cell.specs.declared.Judged.{Judged}
@@ -31,7 +32,6 @@ use Rattle.view.specs.declared.Pick.the-variants as pick
 use Rattle.view.proofs.Constants.{Small, const-again}
 use Rattle.view.proofs.Says.{exists-digits}
 use Rattle.scope.proofs.Named.{names-length, number-again}
-use Rattle.scope.specs.Entry.{localScope}
 use Rattle.scope.specs.declared.Scope.{Scope}
 use Rattle.scope.specs.declared.Found.{Found}
 use Rattle.scope.specs.declared.Found.the-variants as F
@@ -44,7 +44,7 @@ use Rattle.resolve.specs.declared.Typed.{Typed}
 use Rattle.resolve.specs.declared.Typed.the-variants as typed
 use Rattle.tree.specs.Tree.{Tree, CONST, BINOP, NOT, IF, EXISTS, VALUE, DATA, CELLCLASS, ROWCLASS, LOCAL, LOCALCLASS, CONV, BIND, BINDC, LUB, DOM, AGG, size, encode, tableRecs, foldKind, foldOp, pickKind}
 use Rattle.tree.specs.Trans.{nums}
-use Rattle.tree.specs.Claims.{typeAt, infoAt, Accepted, refsAt, Tabled, IsConst, constTree, colTree, classTree, foundType, convBytes, blockKind, blockOp}
+use Rattle.tree.specs.Claims.{typeAt, Accepted, refsAt, Tabled, IsConst, constTree, colTree, classTree, foundType, foundInfo, rowInfo, convBytes, blockKind, blockOp}
 use Rattle.tree.proofs.Sizes.{length-encode}
 use Rattle.tree.proofs.Writing.{room-as}
 use Rattle.tree.proofs.Answers.{not-refused, known-is}
@@ -58,16 +58,7 @@ module _ (c ss v : List ℕ) (f : Files) (t : List Scope) (deep d at : ℕ) (w :
   pub type-refused : {i p : ℕ} → l ≡ typed.Refused i p → T.Null ≡ typeAt c v f t deep d at
   type-refused b = absurd (not-refused c ss v f t deep d at w l a b)
 
-  pub local-done : (name : ℕ) {x : Known} {s : Scope} → l ≡ typed.Is x → s ≡ localScope name (x .ty) (x .info)
-      → s ≡ localScope name (typeAt c v f t deep d at) (infoAt c v f t deep d at)
-  local-done name b e =
-      let k = known-is c ss v f t deep d at w l a b in
-      e ∙ ap₂ (localScope name) (k .type-is) (k .info-is)
-
-  pub local-refused : (name : ℕ) {i p : ℕ} {s : Scope} → l ≡ typed.Refused i p → s ≡ localScope name (typeAt c v f t deep d at) (infoAt c v f t deep d at)
-  local-refused name b = absurd (not-refused c ss v f t deep d at w l a b)
-
-pub ruleset lookups = (type-done, type-refused, local-done, local-refused, needs)
+pub ruleset lookups = (type-done, type-refused, needs)
 
 -- ---- types, by what is found
 
@@ -106,6 +97,43 @@ module _ (h : Found) where
   found-more e = rw e
 
 pub ruleset types = (rule-kept, rule-broken, found-column, found-local, found-none, found-more, needs)
+
+-- ---- what is known of a class, by what a name finds
+
+module _ (h : Found) where
+  pub info-column : {a b c : ℕ} {t : Ty} {i j : Info} → h ≡ F.Column a b c t i j → i ≡ foundInfo h
+  unfolding foundInfo
+  info-column e = rw e
+
+  pub info-local : {a : ℕ} {t : Ty} {i : Info} → h ≡ F.Local a t i → i ≡ foundInfo h
+  unfolding foundInfo
+  info-local e = rw e
+
+  pub info-none : h ≡ F.None → Fixed 0 ≡ foundInfo h
+  unfolding foundInfo
+  info-none e = rw e
+
+  pub info-more : h ≡ F.Ambiguous → Fixed 0 ≡ foundInfo h
+  unfolding foundInfo
+  info-more e = rw e
+
+  pub row-column : {a b c : ℕ} {t : Ty} {i j : Info} → h ≡ F.Column a b c t i j → j ≡ rowInfo h
+  unfolding rowInfo
+  row-column e = rw e
+
+  pub row-local : {a : ℕ} {t : Ty} {i : Info} → h ≡ F.Local a t i → Fixed 0 ≡ rowInfo h
+  unfolding rowInfo
+  row-local e = rw e
+
+  pub row-none : h ≡ F.None → Fixed 0 ≡ rowInfo h
+  unfolding rowInfo
+  row-none e = rw e
+
+  pub row-more : h ≡ F.Ambiguous → Fixed 0 ≡ rowInfo h
+  unfolding rowInfo
+  row-more e = rw e
+
+pub ruleset infos = (info-column, info-local, info-none, info-more, row-column, row-local, row-none, row-more, needs)
 
 -- ---- room for a tree is room for a record
 

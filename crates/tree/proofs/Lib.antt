@@ -1,4 +1,4 @@
--- The laws of trees: what is known of a class, sizes, what an accepted value tells of its parts, the places of the writers, and the prefix order read back.
+-- The laws of trees: what is known of a class, sizes, what an accepted value tells of its parts and they of it, the places of the writers, and the prefix order read back.
 -- Assumes nothing.
 pub mod Infos
 pub mod Sizes
@@ -6,6 +6,7 @@ pub mod Kept
 pub mod Resolved
 pub mod Narrow
 pub mod Accepted
+pub mod Parts
 pub mod Answers
 pub mod Writing
 pub mod Leaves

@@ -24,7 +24,7 @@ use Rattle.view.specs.declared.Node.the-variants.{Exists}
 use Rattle.view.proofs.Constants.{ruled-at}
 use Rattle.view.proofs.Says.{exists-digits}
 use Rattle.scope.specs.Scopes.{block, local}
-use Rattle.scope.specs.Words.{nameIn, typeIn}
+use Rattle.scope.specs.Words.{countIn, tableIn, nameIn, typeIn}
 use Rattle.scope.specs.Table.{tabsAt, openOf, blank, scopesOf}
 use Rattle.scope.specs.declared.Scope.{Scope}
 use Rattle.resolve.specs.Totals.{foldType}
@@ -151,14 +151,14 @@ tables-narrow c n (suc k) i = go (eqb (kindAt c i) 1) (tablesFrom c n k (i + 1))
     go true ts h = (table-narrow c n i, h)
     go false ts h = h
 
-tabs-narrow : (c : List ℕ) (n : ℕ) (ws : List ℕ) (i k : ℕ) → kept.Tables Narrow (tabsAt c n ws i k)
+tabs-narrow : (c : List ℕ) (n : ℕ) (s : Scope) (i k : ℕ) → kept.Tables Narrow (tabsAt c n s i k)
 unfolding tabsAt
-tabs-narrow c n ws i zero = tt
-tabs-narrow c n ws i (suc k) = (table-narrow c n (getD ws i 0), tabs-narrow c n ws (i + 1) k)
+tabs-narrow c n s i zero = tt
+tabs-narrow c n s i (suc k) = (table-narrow c n (tableIn s i), tabs-narrow c n s (i + 1) k)
 
 open-narrow : (c : List ℕ) (n : ℕ) (s : Scope) → Narrow (typeIn s) → kept.Scope Narrow (openOf c n s)
 unfolding openOf
-open-narrow c n s h = go (eqb (s .count) 0) _ (tabs-narrow c n (s .words) 0 _)
+open-narrow c n s h = go (eqb (countIn s) 0) _ (tabs-narrow c n s 0 _)
   where
     go : (b : Bool) (ts : List Table) → kept.Tables Narrow ts → kept.Scope Narrow (cond b (local (nameIn s) (typeIn s)) (block ts))
     go true ts k = h

@@ -7,6 +7,7 @@ use mathlib.Core.List.{List, []}
 use lib.ListN.{length, getD}
 use Rattle.word.specs.Record.{recBytes}
 use Rattle.class.specs.declared.Info.{Info}
+use Rattle.class.specs.declared.Info.the-variants.{Fixed}
 use Rattle.cell.specs.Types.{digitsOf, scaleOf, sameType}
 use Rattle.cell.specs.declared.Type.{«Type» as Ty}
 use Rattle.cell.specs.declared.Type.the-variants as T
@@ -137,6 +138,19 @@ foundType (F.Column a b c t i r) = t
 foundType (F.Local a t i) = t
 foundType F.None = T.Null
 foundType F.Ambiguous = T.Null
+
+-- what is known of the class of what a name finds, and of its row's; 0 where it finds no such, or more than one
+unfoldable pub foundInfo : Found → Info
+foundInfo (F.Column a b c t i r) = i
+foundInfo (F.Local a t i) = i
+foundInfo F.None = Fixed 0
+foundInfo F.Ambiguous = Fixed 0
+
+unfoldable pub rowInfo : Found → Info
+rowInfo (F.Column a b c t i r) = r
+rowInfo (F.Local a t i) = Fixed 0
+rowInfo F.None = Fixed 0
+rowInfo F.Ambiguous = Fixed 0
 
 -- the record before a limb of type s under IF of type t: CONV where they differ
 unfoldable pub convBytes : Ty → Ty → List ℕ

@@ -1,11 +1,10 @@
-// What is known of an accepted value: by the walk of names and types its type and the entry of a local that is bound to it; its type from its parts' types.
+// What is known of an accepted value: by the walk of names and types its type; its type from its parts' types; what a name's finding tells.
 // The value at a record is that of specs/Claims.
 ghost use mathlib.Core.Path.{_≡_};
 ghost use Rattle.cell.specs.Res.{orElse};
 ghost use Rattle.cell.specs.Types.{digitsOf, binopType};
 ghost use Rattle.cell.specs.declared.Type.the-variants.{Null};
-ghost use Rattle.scope.specs.Entry.{localScope};
-ghost use Rattle.tree.specs.Claims.{typeAt, infoAt, Accepted, foundType};
+ghost use Rattle.tree.specs.Claims.{typeAt, Accepted, foundType, foundInfo, rowInfo};
 
 // Its type.
 pub fn type_at(
@@ -27,33 +26,6 @@ pub fn type_at(
             ty
         }
         resolve::Typed::Refused(_, _) => cell::Type::Null,
-    }
-}
-
-// The entry of the local of this name that is bound to it.
-pub fn local_at(
-    cat: &[u8],
-    starts: &[u16; 32],
-    view: &[u8],
-    f: resolve::Files,
-    at: usize,
-    depth: usize,
-    t: [scope::Scope; 16],
-    deep: usize,
-    name: u16,
-) -> scope::Scope
-    requires { ⌜ Accepted (now cat) (now starts) (now view) f t deep depth at ⌝ }
-    ensures { λ r. ⌜ r ≡ localScope name (typeAt (now (cat .entry)) (now (view .entry)) f t deep depth at) (infoAt (now (cat .entry)) (now (view .entry)) f t deep depth at) ⌝ }
-{
-    match resolve::value(cat, starts, view, f, at, depth, t, deep) {
-        resolve::Typed::Is(x) => {
-            let ty = x.ty;
-            let info = x.info;
-            scope::local_scope(name, ty, info)
-        }
-        resolve::Typed::Refused(_, _) => {
-            scope::local_scope(name, cell::Type::Null, class::Info::Fixed(0))
-        }
     }
 }
 
@@ -83,5 +55,29 @@ pub fn found_type(h: scope::Found) -> cell::Type
         scope::Found::Local(_, ty, _) => ty,
         scope::Found::None => cell::Type::Null,
         scope::Found::Ambiguous => cell::Type::Null,
+    }
+}
+
+// What is known of the class of what a name finds; 0 where it finds nothing, or more than one.
+pub fn found_info(h: scope::Found) -> class::Info
+    ensures { λ r. ⌜ r ≡ foundInfo h ⌝ }
+{
+    match h {
+        scope::Found::Column(_, _, _, _, i, _) => i,
+        scope::Found::Local(_, _, i) => i,
+        scope::Found::None => class::Info::Fixed(0),
+        scope::Found::Ambiguous => class::Info::Fixed(0),
+    }
+}
+
+// What is known of the class of the row where a name finds a column; 0 where it finds none, or more than one.
+pub fn row_info(h: scope::Found) -> class::Info
+    ensures { λ r. ⌜ r ≡ rowInfo h ⌝ }
+{
+    match h {
+        scope::Found::Column(_, _, _, _, _, row) => row,
+        scope::Found::Local(_, _, _) => class::Info::Fixed(0),
+        scope::Found::None => class::Info::Fixed(0),
+        scope::Found::Ambiguous => class::Info::Fixed(0),
     }
 }

@@ -10,13 +10,14 @@ ghost use Rattle.word.specs.Buffer.{Wrote, Room};
 ghost use Rattle.view.specs.Record.{nodeAt};
 ghost use Rattle.resolve.specs.Claims.{blockNode};
 ghost use Rattle.tree.specs.Tree.{encode};
-ghost use Rattle.tree.specs.Claims.{typeAt, dataAt, limbAt, nextAt, Narrow, Accepted};
+ghost use Rattle.tree.specs.Claims.{typeAt, infoAt, dataAt, limbAt, nextAt, Narrow, Accepted};
 
-// Where a writer stands after a value: the next record of the view, and the place in the buffer; and the value's type.
+// Where a writer stands after a value: the next record of the view, and the place in the buffer; and the value's type, and what is known of its class.
 pub struct Pos {
     pub next: usize,
     pub to: usize,
     pub ty: cell::Type,
+    pub info: class::Info,
 }
 
 // The data tree of the value at a record, with depth levels left, in the scopes of t that are open.
@@ -37,31 +38,49 @@ pub fn write_d(
     ensures { λ r. ⌜ r .next ≡ nextAt (now (view .entry)) f depth at ⌝ }
     ensures { λ r. ⌜ Wrote (now (out .entry)) to (encode (dataAt (now (cat .entry)) (now (view .entry)) f t deep depth at)) (now (out .exit)) (r .to) ⌝ }
     ensures { λ r. ⌜ r .ty ≡ typeAt (now (cat .entry)) (now (view .entry)) f t deep depth at ⌝ }
+    ensures { λ r. ⌜ r .info ≡ infoAt (now (cat .entry)) (now (view .entry)) f t deep depth at ⌝ }
 {
     let next = at + 1;
     let down = depth - 1;
-    match view::node_at(view, at) {
+    match view::sound_at(view, at) {
         view::Node::Const(ty, _) => {
             let a = records::copy_const(view, at, out, to);
-            Pos { next, to: a, ty }
+            Pos {
+                next,
+                to: a,
+                ty,
+                info: class::Info::Fixed(f.k),
+            }
         }
         view::Node::Binop(op) => {
             let x = write_d(cat, starts, view, f, next, down, t, deep, out, to + 8);
             let y = write_d(cat, starts, view, f, x.next, down, t, deep, out, x.to);
             let r = x.ty;
             let s = y.ty;
+            let i = x.info;
+            let j = y.info;
             let ty = known::binop_type(op, r, s);
+            let info = class::joined(i, j);
             let p = known::digits_of(ty);
             word::put_rec(out, to, 7, op, p, 0, 0);
             Pos {
                 next: y.next,
                 to: y.to,
                 ty,
+                info,
             }
         }
         view::Node::Not => {
             let a = word::put_rec(out, to, 8, 0, 0, 0, 0);
-            write_d(cat, starts, view, f, next, down, t, deep, out, a)
+            let x = write_d(cat, starts, view, f, next, down, t, deep, out, a);
+            let ty = x.ty;
+            let info = x.info;
+            Pos {
+                next: x.next,
+                to: x.to,
+                ty,
+                info,
+            }
         }
         view::Node::If => {
             let ty = known::type_at(cat, starts, view, f, at, depth, t, deep);
@@ -69,14 +88,20 @@ pub fn write_d(
             let x = write_d(cat, starts, view, f, next, down, t, deep, out, a);
             let y = write_limb(cat, starts, view, f, x.next, down, t, deep, ty, out, x.to);
             let z = write_limb(cat, starts, view, f, y.next, down, t, deep, ty, out, y.to);
+            let i = x.info;
+            let j = y.info;
+            let k = z.info;
+            let choice = class::chosen(j, k);
+            let info = class::joined(i, choice);
             Pos {
                 next: z.next,
                 to: z.to,
                 ty,
+                info,
             }
         }
         view::Node::Exists(a, q) => {
-            write_block(
+            let x = write_block(
                 cat,
                 starts,
                 view,
@@ -89,10 +114,18 @@ pub fn write_d(
                 resolve::Asked::Rows(q),
                 out,
                 to,
-            )
+            );
+            let ty = x.ty;
+            let info = x.info;
+            Pos {
+                next: x.next,
+                to: x.to,
+                ty,
+                info,
+            }
         }
         view::Node::Single(a, g) => {
-            write_block(
+            let x = write_block(
                 cat,
                 starts,
                 view,
@@ -105,44 +138,73 @@ pub fn write_d(
                 resolve::Asked::Values(g),
                 out,
                 to,
-            )
+            );
+            let ty = x.ty;
+            let info = x.info;
+            Pos {
+                next: x.next,
+                to: x.to,
+                ty,
+                info,
+            }
         }
         view::Node::Col(name, q) => {
             let h = scope::find(t, cat, f.nc, deep, name, q);
             let a = records::put_column(h, out, to);
             let ty = known::found_type(h);
-            Pos { next, to: a, ty }
+            let info = known::found_info(h);
+            Pos {
+                next,
+                to: a,
+                ty,
+                info,
+            }
         }
         view::Node::Classof(name, q) => {
             let h = scope::find(t, cat, f.nc, deep, name, q);
             let a = records::put_cell_class(h, out, to);
+            let info = known::row_info(h);
             Pos {
                 next,
                 to: a,
                 ty: cell::Type::Class,
+                info,
             }
         }
         view::Node::Let(name) => {
-            let s = known::local_at(cat, starts, view, f, next, down, t, deep, name);
-            let u = scope::pushed(t, deep, s);
             let a = word::put_rec(out, to, 23, 0, 0, 0, 0);
             let x = write_d(cat, starts, view, f, next, down, t, deep, out, a);
-            write_d(cat, starts, view, f, x.next, down, u, deep + 1, out, x.to)
+            let r = x.ty;
+            let i = x.info;
+            let s = scope::local_scope(name, r, i);
+            let u = scope::pushed(t, deep, s);
+            let y = write_d(cat, starts, view, f, x.next, down, u, deep + 1, out, x.to);
+            let ty = y.ty;
+            let info = y.info;
+            Pos {
+                next: y.next,
+                to: y.to,
+                ty,
+                info,
+            }
         }
         view::Node::Table(_) => Pos {
             next,
             to,
             ty: cell::Type::Null,
+            info: class::Info::Fixed(0),
         },
         view::Node::Select(_, _) => Pos {
             next,
             to,
             ty: cell::Type::Null,
+            info: class::Info::Fixed(0),
         },
         view::Node::Bad => Pos {
             next,
             to,
             ty: cell::Type::Null,
+            info: class::Info::Fixed(0),
         },
     }
 }
@@ -167,6 +229,7 @@ fn write_limb(
     ensures { λ r. ⌜ r .next ≡ nextAt (now (view .entry)) f depth at ⌝ }
     ensures { λ r. ⌜ Wrote (now (out .entry)) to (encode (limbAt (now (cat .entry)) (now (view .entry)) f t deep depth at ty)) (now (out .exit)) (r .to) ⌝ }
     ensures { λ r. ⌜ r .ty ≡ typeAt (now (cat .entry)) (now (view .entry)) f t deep depth at ⌝ }
+    ensures { λ r. ⌜ r .info ≡ infoAt (now (cat .entry)) (now (view .entry)) f t deep depth at ⌝ }
 {
     let own = known::type_at(cat, starts, view, f, at, depth, t, deep);
     let a = records::put_conv(own, ty, out, to);
@@ -193,6 +256,7 @@ fn write_block(
     ensures { λ r. ⌜ r .next ≡ nextAt (now (view .entry)) f depth at ⌝ }
     ensures { λ r. ⌜ Wrote (now (out .entry)) to (encode (dataAt (now (cat .entry)) (now (view .entry)) f t deep depth at)) (now (out .exit)) (r .to) ⌝ }
     ensures { λ r. ⌜ r .ty ≡ typeAt (now (cat .entry)) (now (view .entry)) f t deep depth at ⌝ }
+    ensures { λ r. ⌜ r .info ≡ infoAt (now (cat .entry)) (now (view .entry)) f t deep depth at ⌝ }
 {
     let next = at + 1;
     let down = depth - 1;
@@ -218,14 +282,27 @@ fn write_block(
     match asked {
         resolve::Asked::Rows(q) => {
             let ty = resolve::fold_type(q);
+            let i = x.info;
+            let info = resolve::exists_info(s, cat, f.nc, i);
             Pos {
                 next: x.next,
                 to: x.to,
                 ty,
+                info,
             }
         }
         resolve::Asked::Values(_) => {
-            write_d(cat, starts, view, f, x.next, down, u, deep + 1, out, x.to)
+            let y = write_d(cat, starts, view, f, x.next, down, u, deep + 1, out, x.to);
+            let ty = y.ty;
+            let i = x.info;
+            let j = y.info;
+            let info = resolve::single_info(s, cat, f.nc, i, j);
+            Pos {
+                next: y.next,
+                to: y.to,
+                ty,
+                info,
+            }
         }
     }
 }

@@ -10,5 +10,6 @@ pub mod Read
 pub mod Readers
 pub mod Samples
 pub mod Says
+pub mod Sound
 pub mod Turns
 pub mod Whole

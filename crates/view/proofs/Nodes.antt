@@ -11,14 +11,14 @@ use borrow.Author.Needs.{needs}
 use lib.Dec.{eqb, leb, ltb}
 use lib.IntN.{ℤ, natAbs}
 use Rattle.word.specs.Bytes.{signed32, within}
-use Rattle.word.specs.Record.{recAt}
+use Rattle.word.specs.Record.{kindAt, opAt, aAt, bAt, cAt, recAt}
 use Rattle.word.specs.declared.Rec.{Rec}
 use Rattle.word.proofs.Laws.{signed-low, signed-high}
 use Rattle.cell.specs.Types.{digitsRule}
 use Rattle.cell.specs.Values.{digits}
 use Rattle.cell.specs.declared.Type.the-variants as T
 use Rattle.cell.specs.declared.Value.the-variants as X
-use Rattle.view.specs.Record.{when, bare, opOnly, aOnly, counts, constOf, nodeOf, nodeAt}
+use Rattle.view.specs.Record.{rec, when, bare, opOnly, aOnly, counts, constOf, nodeOf, nodeAt}
 use Rattle.view.specs.declared.Node.{Node}
 use Rattle.view.specs.declared.Fold.the-variants as fold
 use Rattle.view.specs.declared.Pick.the-variants as pick
@@ -170,8 +170,8 @@ module _ (r : Rec) where
         ne-eqb (r .kind) 30 n,
       )
 
-pub node-here : (v : List ℕ) (i : ℕ) {r : Rec} {x : Node} → r ≡ recAt v i → x ≡ nodeOf r → x ≡ nodeAt v i
-unfolding nodeAt
-node-here v i e f = rw (← e) f
+pub node-here : (v : List ℕ) (i : ℕ) {k o a b c : ℕ} {x : Node} → k ≡ kindAt v i → o ≡ opAt v i → a ≡ aAt v i → b ≡ bAt v i → c ≡ cAt v i → x ≡ nodeOf (rec k o a b c) → x ≡ nodeAt v i
+unfolding nodeAt recAt
+node-here v i d e f g h z = z ∙ rw (d, e, f, g, h)
 
 pub ruleset nodes = (const-null, const-truth, const-fixed, const-time, const-interval, const-class, node-const, node-binop, node-not, node-if, node-exists, node-single, node-table, node-select, node-col, node-classof, node-let, node-count, node-greatest, node-least, node-low, node-high, node-here, needs)

@@ -14,7 +14,7 @@ use Rattle.word.specs.Header.{drq, headed, countAt}
 use Rattle.word.proofs.Laws.{headed-long}
 use Rattle.cell.specs.declared.Type.{«Type» as Ty}
 use Rattle.cell.specs.declared.Value.{Value}
-use Rattle.view.specs.Ast.{Exp, Parsed, andThen}
+use Rattle.view.specs.Ast.{Exp, Parsed, andThen, ok}
 use Rattle.view.specs.Ast as ast
 use Rattle.view.specs.Record.{nodeAt, slotOf}
 use Rattle.view.specs.Parse.{enterNode, enter, many, parseTable, parseBlock, parseNode, parseValue, parseRoot, parseView, metOf, walkOf, verdictOf, checkOf}
@@ -86,17 +86,34 @@ pub ruleset tabling = (table-not, table-deep, table-here, stands, needs)
 
 pub ruleset repeats = (many-not, many-again, many-done, many-begin, needs)
 
+-- the same answer once more
+pub again-is : {X w r : Walk} → r ≡ w → w ≡ X → r ≡ X
+again-is e f = e ∙ f
+
 -- value
-module _ (v : List ℕ) (n d at : ℕ) {r : Met} (e : r ≡ metOf (enter v n 1 at)) where
-  pub value-not : {k p : ℕ} → r ≡ M.Refused k p → W.Refused k p ≡ walkOf (parseValue v n d at)
-  value-not f = to-refused (value-refused v n d at (met-refused (enter v n 1 at) e f))
+pub value-early : (v : List ℕ) (n d at : ℕ) → n ≤ at → W.Refused 4 n ≡ walkOf (parseValue v n d at)
+unfolding enter
+value-early v n d at h = to-refused (value-refused v n d at (let e = le-ltb at n h in rw e))
 
-  pub value-too-deep : {nd : Node} → r ≡ M.Found nd → d ≡ 0 → W.Refused 5 at ≡ walkOf (parseValue v n d at)
-  value-too-deep f z = to-refused (value-deep v n d at z (enter-found v n 1 at e f .0))
+module _ (v : List ℕ) (n d at : ℕ) {nd : Node} {s : ℕ} (h : at < n) (e : nd ≡ nodeAt v at) (f : s ≡ slotOf nd) where
+  pub value-nowhere : s ≡ 0 → W.Refused 3 at ≡ walkOf (parseValue v n d at)
+  unfolding enter enterNode
+  value-nowhere z = to-refused (value-refused v n d at (rw (lt-ltb at n h, ← e, ← f, eq-eqb s 0 z)))
 
-  module _ {nd : Node} (f : r ≡ M.Found nd) (z : d ≡ 0 → ⊥) where
+  pub value-elsewhere : (s ≡ 0 → ⊥) → (s ≡ 1 → ⊥) → W.Refused 4 at ≡ walkOf (parseValue v n d at)
+  unfolding enter enterNode
+  value-elsewhere z g = to-refused (value-refused v n d at (rw (lt-ltb at n h, ← e, ← f, ne-eqb s 0 z, ne-eqb s 1 g)))
+
+  entered : s ≡ 1 → enter v n 1 at ≡ ok nd (at + 1)
+  unfolding enter enterNode
+  entered g = let z : s ≡ 0 → ⊥ = λ i. omega arith in rw (lt-ltb at n h, ← e, ← f, ne-eqb s 0 z, eq-eqb s 1 g)
+
+  pub value-too-deep : s ≡ 1 → d ≡ 0 → W.Refused 5 at ≡ walkOf (parseValue v n d at)
+  value-too-deep g z = to-refused (value-deep v n d at z (entered g))
+
+  module _ (i : s ≡ 1) (z : d ≡ 0 → ⊥) where
     found : {md : Node} → nd ≡ md → parseValue v n d at ≡ parseNode v n (d - 1) (parseValue v n (d - 1)) at md
-    found g = value-node v n d at z (enter-found v n 1 at e (f ∙ ap M.Found g) .0)
+    found g = value-node v n d at z (rw g at (entered i))
 
     -- m is the number of the next record
     module _ {m : ℕ} (j : m ≡ at + 1) where
@@ -160,7 +177,7 @@ module _ (v : List ℕ) (n d : ℕ) (p : ℕ → Parsed Exp) (nt nv at : ℕ) {x
     pub block-values : {l : ℕ} {w : Walk} → y ≡ W.Next l → w ≡ walkOf (many p nv l) → w ≡ walkOf (parseBlock v n d p nt nv at)
     block-values h i = i ∙ sym (where-next v n d p nt nv at (walk-next _ e f .1) (walk-next _ g h .1))
 
-pub ruleset turns = (value-not, value-too-deep, value-const, value-col, value-classof, value-binop, value-neg, value-if, value-let, value-exists, value-single, value-table, value-select, value-bad, block-not, block-where-not, block-values, stands, needs)
+pub ruleset turns = (again-is, value-early, value-nowhere, value-elsewhere, value-too-deep, value-const, value-col, value-classof, value-binop, value-neg, value-if, value-let, value-exists, value-single, value-table, value-select, value-bad, block-not, block-where-not, block-values, stands, needs)
 
 -- root
 module _ (v : List ℕ) (n : ℕ) {r : Met} (e : r ≡ metOf (enter v n 3 0)) where

@@ -10,7 +10,7 @@ ghost use lib.IntN.{natAbs};
 ghost use Rattle.word.specs.Bytes.{signed32, within};
 ghost use Rattle.cell.specs.Types.{digitsRule};
 ghost use Rattle.cell.specs.Values.{digits};
-ghost use Rattle.view.specs.Record.{when, bare, opOnly, aOnly, counts, constOf, nodeOf, nodeAt, slotOf};
+ghost use Rattle.view.specs.Record.{rec, when, bare, opOnly, aOnly, counts, constOf, nodeOf, nodeAt, slotOf};
 ghost use Rattle.view.specs.Parse.{enter, many, parseTable, parseBlock, parseValue, parseRoot, metOf, walkOf, checkOf};
 
 // What a block without a value says of its kept rows: whether there is one (EXISTS), or how many, in so many digits (COUNT).
@@ -68,24 +68,24 @@ fn when(kept: bool, node: Node) -> Node
 }
 
 // No field is named.
-fn bare(r: word::Rec) -> bool
-    ensures { λ o. ⌜ o ≡ bare r ⌝ }
+fn bare(op: u8, a: u16, b: u16, c: u16) -> bool
+    ensures { λ o. ⌜ o ≡ bare (rec 0 op a b c) ⌝ }
 {
-    ((r.op == 0) & (r.a == 0)) & ((r.b == 0) & (r.c == 0))
+    ((op == 0) & (a == 0)) & ((b == 0) & (c == 0))
 }
 
 // No field but op is named.
-fn op_only(r: word::Rec) -> bool
-    ensures { λ o. ⌜ o ≡ opOnly r ⌝ }
+fn op_only(a: u16, b: u16, c: u16) -> bool
+    ensures { λ o. ⌜ o ≡ opOnly (rec 0 0 a b c) ⌝ }
 {
-    (r.a == 0) & ((r.b == 0) & (r.c == 0))
+    (a == 0) & ((b == 0) & (c == 0))
 }
 
 // No field but a is named.
-fn a_only(r: word::Rec) -> bool
-    ensures { λ o. ⌜ o ≡ aOnly r ⌝ }
+fn a_only(op: u8, b: u16, c: u16) -> bool
+    ensures { λ o. ⌜ o ≡ aOnly (rec 0 op 0 b c) ⌝ }
 {
-    (r.op == 0) & ((r.b == 0) & (r.c == 0))
+    (op == 0) & ((b == 0) & (c == 0))
 }
 
 fn half(x: u16) -> u32
@@ -95,10 +95,10 @@ fn half(x: u16) -> u32
 }
 
 // The 32 bits of a value: low half b, high half c.
-fn bits_in(r: word::Rec) -> u32
-    ensures { λ o. ⌜ o ≡ r .b + 65536 * r .c ⌝ }
+fn bits_in(b: u16, c: u16) -> u32
+    ensures { λ o. ⌜ o ≡ b + 65536 * c ⌝ }
 {
-    half(r.b) + 65536 * half(r.c)
+    half(b) + 65536 * half(c)
 }
 
 // The magnitude of the signed value that 32 bits say.
@@ -142,19 +142,20 @@ fn fixed_rule(p: u8, s: u8, n: u32) -> bool
     }
 }
 
-// The node of a record of kind 1 to 6.
-fn const_of(r: word::Rec) -> Node
-    ensures { λ o. ⌜ o ≡ constOf r ⌝ }
+// The node of a record of kind 1 to 6, by its fields.
+fn const_of(kind: u8, op: u8, a: u16, b: u16, c: u16) -> Node
+    ensures { λ o. ⌜ o ≡ constOf (rec kind op a b c) ⌝ }
 {
-    let kind = r.kind;
-    let op = r.op;
-    let zero = r.a == 0;
-    let bits = bits_in(r);
+    let zero = a == 0;
+    let bits = bits_in(b, c);
     let value = word::to_signed(bits);
     match kind {
-        1 => when(bare(r), Node::Const(cell::Type::Null, cell::Value::Null)),
+        1 => when(
+            bare(op, a, b, c),
+            Node::Const(cell::Type::Null, cell::Value::Null),
+        ),
         2 => when(
-            (op <= 1) & op_only(r),
+            (op <= 1) & op_only(a, b, c),
             Node::Const(cell::Type::Boolean, cell::Value::Truth(op == 1)),
         ),
         3 => when(
@@ -173,8 +174,8 @@ fn const_of(r: word::Rec) -> Node
             Node::Const(cell::Type::Interval(op), cell::Value::Interval(value)),
         ),
         _ => when(
-            a_only(r),
-            Node::Const(cell::Type::Class, cell::Value::Class(r.a)),
+            a_only(op, b, c),
+            Node::Const(cell::Type::Class, cell::Value::Class(a)),
         ),
     }
 }
@@ -186,43 +187,50 @@ fn inside(lo: u16, hi: u16, x: u16) -> bool
 }
 
 // COUNT's op: 1 to 9 digits at scale 0; no other field but a is named.
-fn counts(r: word::Rec) -> bool
-    ensures { λ o. ⌜ o ≡ counts r ⌝ }
+fn counts(op: u8, b: u16, c: u16) -> bool
+    ensures { λ o. ⌜ o ≡ counts (rec 0 op 0 b c) ⌝ }
 {
-    let op = r.op;
-    ((1 <= op / 16) & (op / 16 <= 9)) & ((op % 16 == 0) & ((r.b == 0) & (r.c == 0)))
+    ((1 <= op / 16) & (op / 16 <= 9)) & ((op % 16 == 0) & ((b == 0) & (c == 0)))
 }
 
-// The node of a record.
-fn node_of(r: word::Rec) -> Node
-    ensures { λ o. ⌜ o ≡ nodeOf r ⌝ }
+// The node of a record, by its fields.
+fn node_of(kind: u8, op: u8, a: u16, b: u16, c: u16) -> Node
+    ensures { λ o. ⌜ o ≡ nodeOf (rec kind op a b c) ⌝ }
 {
-    let kind = r.kind;
-    let op = r.op;
-    let a = r.a;
-    let b = r.b;
-    let plain = (op == 0) & (r.c == 0);
+    let plain = (op == 0) & (c == 0);
     match kind {
-        1..=6 => const_of(r),
-        7 => when(((1 <= op) & (op <= 12)) & op_only(r), Node::Binop(op)),
-        8 => when(bare(r), Node::Not),
-        9 => when(bare(r), Node::If),
-        10 => when(inside(1, 4, a) & a_only(r), Node::Exists(a, Fold::Any)),
-        11 => when(inside(1, 4, a) & a_only(r), Node::Single(a, Pick::Only)),
-        12 => when((1 <= a) & a_only(r), Node::Table(a)),
+        1..=6 => const_of(kind, op, a, b, c),
+        7 => when(((1 <= op) & (op <= 12)) & op_only(a, b, c), Node::Binop(op)),
+        8 => when(bare(op, a, b, c), Node::Not),
+        9 => when(bare(op, a, b, c), Node::If),
+        10 => when(
+            inside(1, 4, a) & a_only(op, b, c),
+            Node::Exists(a, Fold::Any),
+        ),
+        11 => when(
+            inside(1, 4, a) & a_only(op, b, c),
+            Node::Single(a, Pick::Only),
+        ),
+        12 => when((1 <= a) & a_only(op, b, c), Node::Table(a)),
         13 => when(
             (inside(1, 4, a) & inside(1, 32, b)) & plain,
             Node::Select(a, b),
         ),
         14 => when((1 <= a) & plain, Node::Col(a, b)),
         15 => when((1 <= a) & plain, Node::Classof(a, b)),
-        16 => when((1 <= a) & a_only(r), Node::Let(a)),
+        16 => when((1 <= a) & a_only(op, b, c), Node::Let(a)),
         28 => when(
-            inside(1, 4, a) & counts(r),
+            inside(1, 4, a) & counts(op, b, c),
             Node::Exists(a, Fold::Count(op / 16)),
         ),
-        29 => when(inside(1, 4, a) & a_only(r), Node::Single(a, Pick::Greatest)),
-        30 => when(inside(1, 4, a) & a_only(r), Node::Single(a, Pick::Least)),
+        29 => when(
+            inside(1, 4, a) & a_only(op, b, c),
+            Node::Single(a, Pick::Greatest),
+        ),
+        30 => when(
+            inside(1, 4, a) & a_only(op, b, c),
+            Node::Single(a, Pick::Least),
+        ),
         _ => Node::Bad,
     }
 }
@@ -233,6 +241,64 @@ pub fn node_at(view: &[u8], i: usize) -> Node
     ensures { λ r. ⌜ r ≡ nodeAt (now (view .entry)) i ⌝ }
 {
     reader::here(reader::make(view, i))
+}
+
+// The node of a constant's record that keeps its rule.
+fn sound_const(kind: u8, op: u8, a: u16, b: u16, c: u16) -> Node
+    requires { ⌜ slotOf (constOf (rec kind op a b c)) ≡ 1 ⌝ }
+    ensures { λ o. ⌜ o ≡ constOf (rec kind op a b c) ⌝ }
+{
+    let bits = bits_in(b, c);
+    let value = word::to_signed(bits);
+    match kind {
+        1 => Node::Const(cell::Type::Null, cell::Value::Null),
+        2 => Node::Const(cell::Type::Boolean, cell::Value::Truth(op == 1)),
+        3 => Node::Const(
+            cell::Type::Fixed(op / 16, op % 16),
+            cell::Value::Fixed(op % 16, value),
+        ),
+        4 => Node::Const(cell::Type::Time(op), cell::Value::Time(value)),
+        5 => Node::Const(cell::Type::Interval(op), cell::Value::Interval(value)),
+        _ => Node::Const(cell::Type::Class, cell::Value::Class(a)),
+    }
+}
+
+// The node of a record that keeps its rule, by its fields.
+fn sound_of(kind: u8, op: u8, a: u16, b: u16, c: u16) -> Node
+    requires { ⌜ slotOf (nodeOf (rec kind op a b c)) ≡ 1 ⌝ }
+    ensures { λ o. ⌜ o ≡ nodeOf (rec kind op a b c) ⌝ }
+{
+    match kind {
+        1..=6 => sound_const(kind, op, a, b, c),
+        7 => Node::Binop(op),
+        8 => Node::Not,
+        9 => Node::If,
+        10 => Node::Exists(a, Fold::Any),
+        11 => Node::Single(a, Pick::Only),
+        12 => Node::Table(a),
+        13 => Node::Select(a, b),
+        14 => Node::Col(a, b),
+        15 => Node::Classof(a, b),
+        16 => Node::Let(a),
+        28 => Node::Exists(a, Fold::Count(op / 16)),
+        29 => Node::Single(a, Pick::Greatest),
+        30 => Node::Single(a, Pick::Least),
+        _ => Node::Bad,
+    }
+}
+
+// The node of record i of a view, which is known to stand in a value's place: its rule isn't tested again.
+pub fn sound_at(view: &[u8], i: usize) -> Node
+    requires { ⌜ 8 + 8 * i + 8 ≤ length (now view) ⌝ }
+    requires { ⌜ slotOf (nodeAt (now view) i) ≡ 1 ⌝ }
+    ensures { λ r. ⌜ r ≡ nodeAt (now (view .entry)) i ⌝ }
+{
+    let kind = word::kind_at(view, i);
+    let op = word::op_at(view, i);
+    let a = word::a_at(view, i);
+    let b = word::b_at(view, i);
+    let c = word::c_at(view, i);
+    sound_of(kind, op, a, b, c)
 }
 
 // The number of the record after record i of a view.
@@ -321,34 +387,50 @@ fn tables(view: &[u8], n: usize, at: usize, count: u16, depth: usize) -> Walk
     Walk::Next(m)
 }
 
+// The same answer, taken apart and made again: the compiler then keeps it in registers.
+fn again(w: Walk) -> Walk
+    ensures { λ r. ⌜ r ≡ w ⌝ }
+{
+    match w {
+        Walk::Next(m) => Walk::Next(m),
+        Walk::Refused(k, p) => Walk::Refused(k, p),
+    }
+}
+
 // A value, with depth levels left.
 fn value(view: &[u8], n: usize, at: usize, depth: usize) -> Walk
     requires { ⌜ 8 + 8 * n ≤ length (now view) ⌝ }
     ensures { λ r. ⌜ r ≡ walkOf (parseValue (now (view .entry)) n depth at) ⌝ }
 {
-    match enter(view, n, 1, at) {
-        Met::Refused(k, p) => Walk::Refused(k, p),
-        Met::Found(node) => {
-            if depth == 0 {
-                return Walk::Refused(5, at);
-            }
-            let next = place_after(view, at);
-            let down = depth - 1;
-            match node {
-                Node::Const(_, _) => Walk::Next(next),
-                Node::Binop(_) => values(view, n, next, 2, down),
-                Node::Not => values(view, n, next, 1, down),
-                Node::If => values(view, n, next, 3, down),
-                Node::Exists(tables, _) => block(view, n, next, tables, 0, down),
-                Node::Single(tables, _) => block(view, n, next, tables, 1, down),
-                Node::Table(_) => Walk::Refused(4, at),
-                Node::Select(_, _) => Walk::Refused(4, at),
-                Node::Col(_, _) => Walk::Next(next),
-                Node::Classof(_, _) => Walk::Next(next),
-                Node::Let(_) => values(view, n, next, 2, down),
-                Node::Bad => Walk::Refused(3, at),
-            }
-        }
+    if n <= at {
+        return Walk::Refused(4, n);
+    }
+    let node = node_at(view, at);
+    let s = slot_of(node);
+    if s == 0 {
+        return Walk::Refused(3, at);
+    }
+    if s != 1 {
+        return Walk::Refused(4, at);
+    }
+    if depth == 0 {
+        return Walk::Refused(5, at);
+    }
+    let next = place_after(view, at);
+    let down = depth - 1;
+    match node {
+        Node::Const(_, _) => Walk::Next(next),
+        Node::Binop(_) => again(values(view, n, next, 2, down)),
+        Node::Not => again(values(view, n, next, 1, down)),
+        Node::If => again(values(view, n, next, 3, down)),
+        Node::Exists(tables, _) => again(block(view, n, next, tables, 0, down)),
+        Node::Single(tables, _) => again(block(view, n, next, tables, 1, down)),
+        Node::Table(_) => Walk::Refused(4, at),
+        Node::Select(_, _) => Walk::Refused(4, at),
+        Node::Col(_, _) => Walk::Next(next),
+        Node::Classof(_, _) => Walk::Next(next),
+        Node::Let(_) => again(values(view, n, next, 2, down)),
+        Node::Bad => Walk::Refused(3, at),
     }
 }
 

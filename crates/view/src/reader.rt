@@ -18,7 +18,12 @@ fn decoded(view: &[u8], i: usize) -> Node
     requires { ⌜ 8 + 8 * i + 8 ≤ length (now view) ⌝ }
     ensures { λ r. ⌜ r ≡ nodeAt (now (view .entry)) i ⌝ }
 {
-    node_of(word::rec_at(view, i))
+    let kind = word::kind_at(view, i);
+    let op = word::op_at(view, i);
+    let a = word::a_at(view, i);
+    let b = word::b_at(view, i);
+    let c = word::c_at(view, i);
+    node_of(kind, op, a, b, c)
 }
 
 // A reader at a place of a view.

@@ -13,7 +13,9 @@ use Rattle.view.proofs.+block+value+values.Lts-value as value-lts
 use Rattle.view.proofs.values.Reads as values
 use Rattle.view.proofs.values.Kinds as values-kinds
 use Rattle.view.proofs.+block+value+values.Lts-values as values-lts
-use Rattle.view.proofs.enter.Reads as enter-reads
+use Rattle.view.proofs.again.Reads as again-reads
+use Rattle.view.proofs.node_at.Reads as node-at-reads
+use Rattle.view.proofs.slot_of.Reads as slot-of-reads
 use Rattle.view.proofs.place_after.Reads as place-after-reads
 use Rattle.view.proofs.tables.Reads as tables-reads
 use Rattle.view.specs.Parse.{many, parseValue, walkOf}
@@ -76,17 +78,23 @@ pub +block+value+values-spec : {M : Type 1} → statement M
     (λ c. search turns)
     (λ c. search turns))
     (λ t. value-lts.spec (
-      enter-reads.Asked,
-      enter-reads.Learnt,
+      node-at-reads.Asked,
+      node-at-reads.Learnt,
+      slot-of-reads.Asked,
+      slot-of-reads.Learnt,
       place-after-reads.Asked,
       place-after-reads.Learnt,
       values-below t,
       values.Post,
+      again-reads.Asked,
+      again-reads.Learnt,
       block-below t,
       block.Post,
     )
     (value-at t)
     value.Post
+    (λ c. search turns)
+    (λ c κs. search turns)
     (λ c κs. search turns)
     (λ c. search turns)
     (λ c. search turns)
@@ -96,21 +104,26 @@ pub +block+value+values-spec : {M : Type 1} → statement M
     (λ c. search turns)
     (λ c. search turns)
     (λ c κs. search turns)
-    (λ c. search turns)
     (λ c κs. search turns)
     (λ c. search turns)
     (λ c κs. search turns)
-    (λ c. search turns)
     (λ c κs. search turns)
     (λ c. search turns)
     (λ c κs. search turns)
+    (λ c κs. search turns)
+    (λ c. search turns)
+    (λ c κs. search turns)
+    (λ c κs. search turns)
+    (λ c. search turns)
+    (λ c κs. search turns)
+    (λ c κs. search turns)
     (λ c. search turns)
     (λ c. search turns)
     (λ c. search turns)
     (λ c. search turns)
     (λ c. search turns)
     (λ c κs. search turns)
-    (λ c. search turns)
+    (λ c κs. search turns)
     (λ c. search turns)
     (λ c. search turns)
     (λ c. search turns)

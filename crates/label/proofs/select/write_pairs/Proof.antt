@@ -1,6 +1,7 @@
 -- The loop writes what is left: storing the rest of the pairs from here on comes to storing them all.
 -- Assumes nothing.
 use borrow.Author.Needs.{needs}
+use mathlib.Core.Path.{_∙_}
 use mathlib.Core.List.{List}
 use Prim.Native.Nat.{ℕ}
 use Rattle.word.specs.Buffer.{Room}
@@ -9,6 +10,7 @@ use Rattle.scope.specs.declared.Scope.{Scope}
 use Rattle.resolve.specs.declared.Files.{Files}
 use Rattle.label.specs.Whole.{Accepts, pairBytes}
 use Rattle.label.proofs.Joins.{room-as}
+use Rattle.label.proofs.Parts.{info-is}
 use Rattle.label.proofs.Whole.{accepts-some, accepts-next, pairs-some, pairs-next, pairs-none}
 use Rattle.label.proofs.select.write_pairs.Statement.{statement}
 use Rattle.label.proofs.select.write_pairs.Tie as tie
@@ -34,8 +36,8 @@ write-pairs-spec =
     (λ c. record { there = c .before .before .before .pre .0; room = c .before .before .before .pre .1; todo = todo-all _ _ _ })
     -- write-d-requires
     (λ c κs. ((accepts-some _ _ _ _ _ _ _ (c .before .loop-test .taken) (c .before .before .loop .inv .there)) .0, front _ (room-as (pairs-some _ _ _ _ _ _ (c .before .loop-test .taken)) (c .before .before .loop .inv .room))))
-    -- write-c-requires
-    (λ c κs. ((accepts-some _ _ _ _ _ _ _ (c .before .before .before .before .before .loop-test .taken) (c .before .before .before .before .before .before .loop .inv .there)) .0, front _ (after (c .before .before .before .write-d .ensures .1 .0) (room-as (pairs-some _ _ _ _ _ _ (c .before .before .before .before .before .loop-test .taken)) (c .before .before .before .before .before .before .loop .inv .room)))))
+    -- write-known-requires
+    (λ c κs. ((accepts-some _ _ _ _ _ _ _ (c .before .before .before .before .before .loop-test .taken) (c .before .before .before .before .before .before .loop .inv .there)) .0, (c .before .before .before .write-d .ensures .1 .1 .1 ∙ info-is _ _ _ _ _ _ _, front _ (after (c .before .before .before .write-d .ensures .1 .0) (room-as (pairs-some _ _ _ _ _ _ (c .before .before .before .before .before .loop-test .taken)) (c .before .before .before .before .before .before .loop .inv .room))))))
     -- sub-i
     (λ c. search needs)
     -- loop-less
@@ -43,8 +45,8 @@ write-pairs-spec =
     -- loop-again
     (λ c. record {
       there = accepts-next _ _ _ _ _ _ _ _ (c .before .before .before .before .before .before .before .before .loop-test .taken) (c .before .before .before .before .before .before .before .before .before .loop .inv .there) (c .before .before .before .before .before .before .write-d .ensures .0);
-      room = after (c .before .before .write-c .ensures) (after (c .before .before .before .before .before .before .write-d .ensures .1 .0) (room-as (pairs-next _ _ _ _ _ _ _ (c .before .before .before .before .before .before .before .before .loop-test .taken) (c .before .before .before .before .before .before .write-d .ensures .0)) (c .before .before .before .before .before .before .before .before .before .loop .inv .room)));
-      todo = todo-less (c .before .before .write-c .ensures) (todo-less (c .before .before .before .before .before .before .write-d .ensures .1 .0) (todo-same (pairs-next _ _ _ _ _ _ _ (c .before .before .before .before .before .before .before .before .loop-test .taken) (c .before .before .before .before .before .before .write-d .ensures .0)) (c .before .before .before .before .before .before .before .before .before .loop .inv .todo)));
+      room = after (c .before .before .write-known .ensures) (after (c .before .before .before .before .before .before .write-d .ensures .1 .0) (room-as (pairs-next _ _ _ _ _ _ _ (c .before .before .before .before .before .before .before .before .loop-test .taken) (c .before .before .before .before .before .before .write-d .ensures .0)) (c .before .before .before .before .before .before .before .before .before .loop .inv .room)));
+      todo = todo-less (c .before .before .write-known .ensures) (todo-less (c .before .before .before .before .before .before .write-d .ensures .1 .0) (todo-same (pairs-next _ _ _ _ _ _ _ (c .before .before .before .before .before .before .before .before .loop-test .taken) (c .before .before .before .before .before .before .write-d .ensures .0)) (c .before .before .before .before .before .before .before .before .before .loop .inv .todo)));
     })
     -- same-length
     (λ c. todo-length (c .before .loop .inv .todo))

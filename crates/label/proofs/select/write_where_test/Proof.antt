@@ -24,9 +24,9 @@ write-where-test-spec =
     (λ c. wrote-nothing _ (class-out _ _ (c .before .before .before .known .ensures .info-is) (c .before .before .bound-of .ensures) (c .before .dominates .ensures) (c .if1 .taken)))
     -- write-dom-requires
     (λ c κs. front _ (room-as (class-in _ _ (c .before .before .before .before .known .ensures .info-is) (c .before .before .before .bound-of .ensures) (c .before .before .dominates .ensures) (c .before .if1 .left)) (c .before .before .before .before .before .before .before .before .pre .1)))
-    -- write-c-requires
-    (λ c κs. (c .before .before .before .before .before .before .before .before .before .before .before .before .pre .0, after (c .before .before .before .write-dom .ensures) (room-as (class-in _ _ (c .before .before .before .before .before .before .before .before .known .ensures .info-is) (c .before .before .before .before .before .before .before .bound-of .ensures) (c .before .before .before .before .before .before .dominates .ensures) (c .before .before .before .before .before .if1 .left)) (c .before .before .before .before .before .before .before .before .before .before .before .before .pre .1))))
+    -- write-known-requires
+    (λ c κs. (c .before .before .before .before .before .before .before .before .before .before .before .before .pre .0, (c .before .before .before .before .before .before .before .before .known .ensures .info-is, after (c .before .before .before .write-dom .ensures) (room-as (class-in _ _ (c .before .before .before .before .before .before .before .before .known .ensures .info-is) (c .before .before .before .before .before .before .before .bound-of .ensures) (c .before .before .before .before .before .before .dominates .ensures) (c .before .before .before .before .before .if1 .left)) (c .before .before .before .before .before .before .before .before .before .before .before .before .pre .1)))))
     -- same-length
-    (λ c. kept (c .before .before .write-c .ensures) ∙ kept (c .before .before .before .before .before .before .write-dom .ensures))
+    (λ c. kept (c .before .before .write-known .ensures) ∙ kept (c .before .before .before .before .before .before .write-dom .ensures))
     -- returns-2
-    (λ c. wrote-as (sym (class-in _ _ (c .before .before .before .before .before .before .before .before .before .before .before .known .ensures .info-is) (c .before .before .before .before .before .before .before .before .before .before .bound-of .ensures) (c .before .before .before .before .before .before .before .before .before .dominates .ensures) (c .before .before .before .before .before .before .before .before .if1 .left))) (then (c .before .before .before .before .before .before .write-dom .ensures) (c .before .before .write-c .ensures))))
+    (λ c. wrote-as (sym (class-in _ _ (c .before .before .before .before .before .before .before .before .before .before .before .known .ensures .info-is) (c .before .before .before .before .before .before .before .before .before .before .bound-of .ensures) (c .before .before .before .before .before .before .before .before .before .dominates .ensures) (c .before .before .before .before .before .before .before .before .if1 .left))) (then (c .before .before .before .before .before .before .write-dom .ensures) (c .before .before .write-known .ensures))))

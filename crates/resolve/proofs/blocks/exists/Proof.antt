@@ -11,6 +11,8 @@ exists-spec =
     (tie.spec
     -- tables-in-requires
     (λ c κs. search needs)
+    -- cast-m
+    (λ c. search needs)
     -- rows-requires
     (λ c κs. search needs)
     -- class-of-requires

@@ -11,6 +11,8 @@ single-spec =
     (tie.spec
     -- tables-in-requires
     (λ c κs. search needs)
+    -- cast-m
+    (λ c. search needs)
     -- rows-requires
     (λ c κs. search needs)
     -- at-row-requires

@@ -24,6 +24,8 @@ values-spec =
     (λ c κs. search lefts)
     -- enum-known-i
     (λ c. search needs)
+    -- cast-t16
+    (λ c. search needs)
     -- returns
     (λ c. search lefts)
     -- enum-known-x
@@ -32,11 +34,15 @@ values-spec =
     (λ c κs. search needs)
     -- plus-requires-2
     (λ c κs. search needs)
+    -- cast-m
+    (λ c. search needs)
     -- add-j
     (λ c. search needs)
     -- loop-less
     (λ c. search needs)
     -- loop-again
     (λ c. search lefts)
+    -- cast-t18
+    (λ c. search needs)
     -- returns-2
     (λ c. search lefts))

@@ -3,11 +3,12 @@
 use Rattle.scope.proofs.Block.{blocks, lubLeft}
 use Prim.Native.Nat.{_≤_, min}
 use mathlib.Core.Path.{_≡_}
+use Rattle.scope.specs.Words.{countIn}
 use Rattle.scope.proofs.entry.block_class.Statement.{statement}
 use Rattle.scope.proofs.entry.block_class.Tie as tie
 
 abbrev Inv-loop : tie.InvT-loop
-Inv-loop s cat n k₀ j₀ k j = (j ≤ min (s .count) 4) × (k ≡ lubLeft cat n s j)
+Inv-loop s cat n k₀ j₀ k j = (j ≤ min (countIn s) 4) × (k ≡ lubLeft cat n s j)
 
 abbrev μ-loop : tie.MeasureT-loop
 μ-loop s cat n k₀ j₀ k j = j
@@ -18,7 +19,7 @@ block-class-spec =
     (tie.spec
     Inv-loop
     μ-loop
-    -- four-requires
+    -- tables-in-requires
     (λ c κs. search blocks)
     -- loop-holds
     (λ c. search blocks)

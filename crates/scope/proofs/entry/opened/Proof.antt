@@ -8,7 +8,15 @@ pub opened-spec : {M : Type 1} → statement M
 opened-spec =
     tie.close
     (tie.spec
-    -- cast-t6
+    -- array-read-words
+    (λ c. search opens)
+    -- cast-words
+    (λ c. search opens)
+    -- mul-words
+    (λ c. search opens)
+    -- add-words
+    (λ c. search opens)
+    -- array-write-words
     (λ c. search opens)
     -- returns
     (λ c. search opens))

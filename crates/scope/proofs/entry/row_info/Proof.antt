@@ -8,13 +8,9 @@ pub row-info-spec : {M : Type 1} → statement M
 row-info-spec =
     tie.close
     (tie.spec
-    -- four-requires
+    -- tables-in-requires
     (λ c κs. search blocks)
-    -- mul-index
-    (λ c. search blocks)
-    -- array-read-index
-    (λ c. search blocks)
-    -- index-requires
+    -- table-in-requires
     (λ c κs. search blocks)
     -- info-at-requires
     (λ c κs. search blocks)

@@ -8,13 +8,9 @@ pub table-class-at-spec : {M : Type 1} → statement M
 table-class-at-spec =
     tie.close
     (tie.spec
-    -- four-requires
+    -- tables-in-requires
     (λ c κs. search blocks)
-    -- mul-index
-    (λ c. search blocks)
-    -- array-read-index
-    (λ c. search blocks)
-    -- index-requires
+    -- table-in-requires
     (λ c κs. search blocks)
     -- c-at-requires
     (λ c κs. search blocks)

@@ -10,4 +10,8 @@ decoded-spec =
     (tie.spec
     (λ c κs. search nodes)
     (λ c κs. search nodes)
+    (λ c κs. search nodes)
+    (λ c κs. search nodes)
+    (λ c κs. search nodes)
+    (λ c κs. search nodes)
     (λ c. search nodes))
