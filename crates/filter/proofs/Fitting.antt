@@ -120,7 +120,7 @@ unfolding Fits scopes asTree bound
 tree-fits d (fixed k) h = (class-const k h, omega arith, h)
 tree-fits d (tree t b) h = h
 
-info-fits : (d : ℕ) (i : Class) → ClassFits d i → boundOf (infoOf i) < 65536
+pub info-fits : (d : ℕ) (i : Class) → ClassFits d i → boundOf (infoOf i) < 65536
 unfolding infoOf boundOf
 info-fits d (fixed k) h = h
 info-fits d (tree t b) h = h .2

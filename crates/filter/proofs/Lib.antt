@@ -4,6 +4,7 @@ pub mod Formed
 pub mod Fitting
 pub mod Sound
 pub mod Standing
+pub mod Left
 pub mod Only
 pub mod Ways
 pub mod Trees

@@ -116,7 +116,7 @@ conj-fits d (t ∷ ts) x h g =
     ((a, i, omega arith), omega arith)
 
 -- the only open scope is SELECT's own block
-root-words : Words root
+pub root-words : Words root
 unfolding boundOf
 root-words zero = omega arith
 root-words (suc a) = omega arith

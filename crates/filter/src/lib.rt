@@ -10,6 +10,7 @@ ghost use Rattle.store.specs.declared.Verdict.the-variants as stores;
 ghost use Rattle.word.specs.Header.{countAt};
 ghost use Rattle.filter.specs.Jobs.{treeFits, treeOf, Translated, Answered};
 ghost use Rattle.resolve.specs.Sizes.{sumsOf};
+ghost use Rattle.label.specs.Left.{LeftView};
 ghost use Rattle.label.specs.Whole.{selectAt, treeAt, Viewed};
 ghost use Rattle.filter.specs.Steps.{denied, taken, TreeGiven, BothGiven, wordOf, TranslatedWord, AnsweredWord};
 
@@ -40,7 +41,7 @@ fn acceptance(count: usize) -> Result
     }
 }
 
-// The tree of a resolved view, whose parts take so many records: 10 if it needs more records than 8,190 or than the buffer holds.
+// The tree of a resolved view, whose parts take so many records, with the notes and ends that were left of it: 10 if it needs more records than 8,190 or than the buffer holds.
 fn written(
     cat: &[u8],
     starts: &[u16; 32],
@@ -48,16 +49,19 @@ fn written(
     f: resolve::Files,
     sums: resolve::Sums,
     q: u16,
+    notes: &[u64],
+    ends: &[u64],
     tree: &mut [u8],
 ) -> Result
     requires { ⌜ Viewed (now cat) (now starts) (now view) f ⌝ }
+    requires { ⌜ LeftView (now cat) (now view) f (now notes) (now ends) ⌝ }
     requires { ⌜ sums ≡ sumsOf (f .k) (selectAt (now cat) (now view) f) ⌝ }
     ensures { λ r. ⌜ TreeGiven (treeFits (length (now (tree .entry))) (treeAt (now (cat .entry)) (now (view .entry)) f q)) (now (tree .entry)) (now (tree .exit)) r ⌝ }
 {
     let size = label::measure(cat, starts, view, f, q, sums);
     let room = tree.len();
     if (size <= 8190) & (8 + 8 * size <= room) {
-        label::write_tree(cat, starts, view, f, q, size as u16, tree);
+        label::write_tree(cat, starts, view, f, q, size as u16, notes, ends, tree);
         acceptance(size)
     } else {
         refusal(10, 0)
@@ -75,9 +79,13 @@ fn tree_of(cat: &[u8], tables: usize, view: &[u8], k: u16, q: u16, tree: &mut [u
             let nc = word::u16_at(cat, 6) as usize;
             let starts = catalogue::starts(cat, nc);
             let f = resolve::Files { nc, tables, n, k };
-            match resolve::whole(cat, &starts, view, f) {
+            let mut notes = [0u64; 1024];
+            let mut ends = [0u64; 33];
+            match resolve::whole(cat, &starts, view, f, &mut notes, &mut ends) {
                 resolve::Verdict::Refused(i, p) => refusal(i, p),
-                resolve::Verdict::Fine(sums) => written(cat, &starts, view, f, sums, q, tree),
+                resolve::Verdict::Fine(sums) => {
+                    written(cat, &starts, view, f, sums, q, &notes, &ends, tree)
+                }
             }
         }
     }

@@ -1,24 +1,22 @@
 -- THE CLASS OF AN ACCEPTED VALUE BY ITS KIND, from the classes of its parts; and what the walk tells of an accepted value.
 -- Assumes nothing.
-use Prim.Native.Nat.{ℕ, zero, suc, _+_, _-_, _*_, _<_, _≤_}
+use Prim.Native.Nat.{ℕ, _+_, _-_}
 use mathlib.Core.Path.{_≡_, refl, sym, ap, ap₂, _∙_}
 use mathlib.Core.Bool.{Bool, true, false, cond}
-use mathlib.Core.List.{List, [], _∷_, _++_, map}
-use native.Mathlib.Omega.{arith}
-use lib.ListN.{length, getD}
+use mathlib.Core.List.{List, [], _∷_}
+use lib.ListN.{getD}
 use Rattle.class.specs.declared.Info.{Info}
-use Rattle.class.specs.declared.Info.the-variants.{Fixed, Bound}
+use Rattle.class.specs.declared.Info.the-variants.{Fixed}
 use Rattle.cell.specs.Types.{sameType, digitsOf, scaleOf}
 use Rattle.cell.specs.declared.Type.{«Type» as Ty}
 use Rattle.cell.specs.declared.Value.{Value}
 use Rattle.catalogue.specs.Tables.{TabRef}
 use Rattle.view.specs.declared.Fold.{Fold}
 use Rattle.view.specs.declared.Pick.{Pick}
-use Rattle.scope.specs.Scopes.{Hit, column, bound, Only, one, find}
+use Rattle.scope.specs.Scopes.{find}
 use Rattle.scope.specs.Table.{scopesOf, infosOf, foundOf}
 use Rattle.scope.specs.declared.Scope.{Scope}
 use Rattle.scope.specs.declared.Found.{Found}
-use Rattle.scope.specs.declared.Found.the-variants as F
 use Rattle.resolve.specs.Expr.{Expr}
 use Rattle.resolve.specs.Expr as expr
 use Rattle.resolve.specs.Resolve.{brought}

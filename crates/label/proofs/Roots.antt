@@ -17,10 +17,9 @@ use Rattle.class.specs.declared.Info.the-variants.{Fixed}
 use Rattle.cell.specs.declared.Type.{«Type» as Ty}
 use Rattle.cell.specs.declared.Type.the-variants as T
 use Rattle.catalogue.specs.Tables.{Table, TabRef, tablesFrom}
-use Rattle.view.specs.Ast.{TabName, Exp, Block, Parsed, ok, nextOf}
+use Rattle.view.specs.Ast.{Exp, Block, Parsed, ok, nextOf}
 use Rattle.view.specs.Record.{nodeAt}
 use Rattle.view.specs.Parse.{many, namesAt, parseValue, parseView}
-use Rattle.view.specs.declared.Node.{Node}
 use Rattle.view.specs.declared.Node.the-variants.{Select as Sel}
 use Rattle.view.proofs.Read.{InBlock, was-read, here-ok, more-ok, none-ok}
 use Rattle.view.proofs.Whole.{Taken, taken, taken-count}
@@ -29,28 +28,28 @@ use Rattle.scope.specs.Words.{typeIn}
 use Rattle.scope.specs.Table.{openOf, scopesOf, infosOf, blank}
 use Rattle.scope.specs.Blocks.{Tabs, all, tablesNamed, refsOf, opened}
 use Rattle.scope.specs.Entry.{openedBy, openedAs, tablesIn, rowsOf, classesOf}
-use Rattle.scope.specs.declared.Scope.{Scope}
 use Rattle.scope.specs.declared.Opened.{Opened}
 use Rattle.scope.proofs.Named.{BlockOpened, block-opened, names-length}
 use Rattle.resolve.specs.Expr.{Expr, Select}
-use Rattle.resolve.specs.Resolve.{good, resolve, Outs, goods, resolveAll, Resolved, select, refused as denied, resolveView}
-use Rattle.resolve.specs.Claims.{Lent, Ready, resolvedBy, verdictOf}
+use Rattle.resolve.specs.Resolve.{good, resolve, goods, resolveAll, Resolved, select, refused as denied, resolveView}
+use Rattle.resolve.specs.Claims.{Lent, resolvedBy, verdictOf, Narrow, Tabled}
 use Rattle.resolve.specs.declared.Files.{Files}
 use Rattle.resolve.specs.declared.Sums.{Sums}
-use Rattle.resolve.specs.declared.Verdict.{Verdict}
 use Rattle.resolve.specs.declared.Verdict.the-variants as verdict
 use Rattle.resolve.proofs.Inversion.{ViewGood, view-good, all-good}
-use Rattle.tree.specs.Tree.{Tree, SelectTree, size, sizePairs, sizeSelect, tableRecs, encode, encodePairs, encodeSelect, treeFile}
+use Rattle.tree.specs.Tree.{Tree, size, sizePairs, sizeSelect, tableRecs, encode, encodePairs, encodeSelect, treeFile}
 use Rattle.tree.specs.Trans.{D, C, Class, asTree, bound, nums}
 use Rattle.tree.specs.Select.{test, tableTests, conj, root, translated}
-use Rattle.tree.specs.Claims.{exprAt, dataAt, nextAt, refsAt, Tabled, Narrow, Accepted}
+use Rattle.tree.specs.Claims.{exprAt, dataAt, nextAt, refsAt, Accepted}
 use Rattle.tree.proofs.Infos.{info-of-class, bound-info}
-use Rattle.tree.proofs.Narrow.{narrow-null}
+use Rattle.resolve.proofs.Narrow.{narrow-entry}
 use Rattle.tree.proofs.Sizes.{size-data, size-class}
 use Rattle.tree.proofs.Accepted.{Is, accept}
+use Rattle.tree.proofs.Notes.{noted-long}
 use Rattle.label.specs.Claims.{classAt}
-use Rattle.label.specs.Rows.{rowsIn, Rowed}
+use Rattle.label.specs.Rows.{rowsIn}
 use Rattle.label.specs.Whole.{selectIn, selectAt, treeAt, Viewed, Accepts, pairBytes, flat, testBytes, classesIn, flatSize, testSize}
+use Rattle.label.specs.Left.{Left, LeftAll, LeftView, exprsAt}
 use Rattle.label.proofs.Parts.{class-of}
 use Rattle.resolve.specs.Sizes.{capped, pairsSize, sumsOf}
 use Rattle.label.proofs.Counts.{flat-records, cap-all, test-counted}
@@ -217,6 +216,7 @@ module _ (c ss v : List ℕ) (f : Files) (w : Viewed c ss v f) (tables values : 
   refs-are = refs-of (tablesNamed cat (namesAt v 1 tables)) (selectAt c v f .from) from-is
 
   pub root-tabled : Tabled c (f .nc) ss (f .tables) v 1 tables
+  unfolding refsAt
   root-tabled =
       record {
         cat-long = w .given .cat-long;
@@ -242,15 +242,15 @@ module _ (c ss v : List ℕ) (f : Files) (w : Viewed c ss v f) (tables values : 
     infos-are = ap (λ (i : Info). i ∷ []) (entry .known)
 
     narrow : (j : ℕ) → j < 1 → Narrow (typeIn (getD (replicate 16 (o .scope)) j blank))
-    narrow zero l = subst Narrow (sym (entry .untyped)) narrow-null
+    narrow zero l = narrow-entry (o .scope) (entry .untyped)
     narrow (suc j) l = absurd (omega arith)
 
     value-at : (m : ℕ) (e : Exp) (k : ℕ) (x : Expr) (ty : Ty) → parseValue v (f .n) 15 m ≡ ok e k → resolve cat (opened (selectAt c v f .from) ∷ []) e ≡ good x ty
         → Is c ss v f (replicate 16 (o .scope)) 1 15 m x ty
     value-at m e k x ty h r =
         accept c ss v f (replicate 16 (o .scope)) 1 15 m
-        (record { lent = lent; sized = refl; not-many = omega arith; is-read = was-read h; here = here-ok v (f .n) 15 m (was-read h) .here; left = omega arith })
-        narrow h (ap (λ (Γ : List Open). resolve cat Γ e) scopes-are ∙ r)
+        (record { lent = lent; sized = refl; not-many = omega arith; is-read = was-read h; here = here-ok v (f .n) 15 m (was-read h) .here; left = omega arith; narrow = narrow })
+        h (ap (λ (Γ : List Open). resolve cat Γ e) scopes-are ∙ r)
 
     test-is : Is c ss v f (replicate 16 (o .scope)) 1 15 (1 + tables) (selectAt c v f .test) T.Boolean
     test-is = value-at (1 + tables) _ _ _ _ (parts .first) (view-is .test)
@@ -273,20 +273,22 @@ module _ (c ss v : List ℕ) (f : Files) (w : Viewed c ss v f) (tables values : 
     record Row (count m : ℕ) (xs : List Expr) : Type 0 where
       all-there : Accepts c ss v f (replicate 16 (o .scope)) count m
       bytes : pairBytes c v f (replicate 16 (o .scope)) count m ≡ encodePairs (pairsOf (f .k) xs)
+      exprs : exprsAt c v f (replicate 16 (o .scope)) count m ≡ xs
       number : length xs ≡ count
 
     no-row : (m : ℕ) → Row 0 m []
-    unfolding Accepts pairBytes encodePairs
-    no-row m = record { all-there = tt; bytes = refl; number = refl }
+    unfolding Accepts pairBytes encodePairs exprsAt
+    no-row m = record { all-there = tt; bytes = refl; exprs = refl; number = refl }
 
     one-row : (i m : ℕ) (x : Expr) (xs : List Expr) (ty : Ty) → Is c ss v f (replicate 16 (o .scope)) 1 15 m x ty → Row i (nextAt v f 15 m) xs → Row (suc i) m (x ∷ xs)
-    unfolding Accepts pairBytes encodePairs
+    unfolding Accepts pairBytes encodePairs exprsAt
     one-row i m x xs ty h r =
         record {
           all-there = (h .accepted, r .all-there);
           bytes = ap₂ (λ (a b : List ℕ). a ++ (b ++ pairBytes c v f (replicate 16 (o .scope)) i (nextAt v f 15 m)))
               (ap encode (data-root m x (h .expr-as))) (ap (λ (z : Class). encode (asTree z)) (class-root m x (h .expr-as)))
               ∙ ap (λ (l : List ℕ). encode (D x) ++ (encode (asTree (C (f .k) root x)) ++ l)) (r .bytes);
+          exprs = ap₂ (λ (y : Expr) (ys : List Expr). y ∷ ys) (h .expr-as) (r .exprs);
           number = ap suc (r .number);
         }
 
@@ -323,6 +325,20 @@ module _ (c ss v : List ℕ) (f : Files) (w : Viewed c ss v f) (tables values : 
 
     from-number : length (selectAt c v f .from) ≡ tables
     from-number = names-length cat v 1 tables (selectAt c v f .from) from-is
+
+    -- what the walk left of the where, and of the values from record m on
+    module _ (ws es : List ℕ) (l : LeftView c v f ws es) where
+      view-left : LeftAll (f .k) (infosOf (replicate 16 (o .scope)) 1) ws es 0 (exprAt c v f (replicate 16 (o .scope)) 1 15 (1 + tables) ∷ exprsAt c v f (replicate 16 (o .scope)) values (nextAt v f 15 (1 + tables))) (1 + tables)
+      unfolding LeftView
+      view-left = rw (infos-are, test-is .expr-as, values-row .exprs, ← from-number) l
+
+      pub test-left : Left (f .k) (infosOf (replicate 16 (o .scope)) 1) ws es 0 (exprAt c v f (replicate 16 (o .scope)) 1 15 (1 + tables)) (1 + tables)
+      unfolding LeftAll
+      test-left = view-left .0
+
+      pub values-left : {m : ℕ} → m ≡ nextAt v f 15 (1 + tables) → LeftAll (f .k) (infosOf (replicate 16 (o .scope)) 1) ws es 1 (exprsAt c v f (replicate 16 (o .scope)) values m) m
+      unfolding LeftAll
+      values-left e = rw e (rw (noted-long c ss v f (replicate 16 (o .scope)) 1 15 (1 + tables) test-there) at (view-left .1))
 
     root-tests : (q : ℕ) → testBytes q (classesIn c (f .nc) (o .scope)) (rowsIn c (f .nc) (o .scope)) 0 tables ≡ flat (tableTests q 0 (selectAt c v f .from))
     root-tests q =

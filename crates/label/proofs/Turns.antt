@@ -1,6 +1,6 @@
 -- The class writer, one law for each place of its code: what is accepted there, and the bytes of a class from those of its parts.
 -- Assumes nothing.
-use Prim.Native.Nat.{ℕ, zero, suc, _+_, _-_, _*_, _<_, _≤_}
+use Prim.Native.Nat.{ℕ, suc, _+_, _-_, _≤_}
 use mathlib.Core.Path.{_≡_, refl, sym, ap, ap₂, subst, _∙_}
 use mathlib.Core.Bool.{Bool, true, false, not}
 use mathlib.Core.List.{List, [], _∷_, _++_, map}
@@ -13,7 +13,7 @@ use Rattle.class.specs.declared.Info.{Info}
 use Rattle.class.specs.declared.Info.the-variants.{Fixed, Bound}
 use Rattle.cell.specs.declared.Type.{«Type» as Ty}
 use Rattle.cell.specs.declared.Value.{Value}
-use Rattle.catalogue.specs.Tables.{Table, TabRef, tablesFrom}
+use Rattle.catalogue.specs.Tables.{TabRef, tablesFrom}
 use Rattle.view.specs.Record.{nodeAt}
 use Rattle.view.specs.Parse.{namesAt}
 use Rattle.view.specs.declared.Fold.{Fold}
@@ -23,7 +23,7 @@ use Rattle.view.specs.declared.Node.the-variants.{Const, Binop, Not, If, Let, C
 use Rattle.scope.specs.Scopes.{find}
 use Rattle.scope.specs.Words.{countIn}
 use Rattle.scope.specs.Table.{scopesOf, infosOf, foundOf, openOf}
-use Rattle.scope.specs.Blocks.{Tabs, all, tablesNamed, refsOf}
+use Rattle.scope.specs.Blocks.{tablesNamed}
 use Rattle.scope.specs.Entry.{localScope, openedBy, tablesIn, rowsOf, classesOf}
 use Rattle.scope.specs.declared.Scope.{Scope}
 use Rattle.scope.specs.declared.Found.{Found}
@@ -35,7 +35,7 @@ use Rattle.resolve.specs.declared.Asked.the-variants as ask
 use Rattle.resolve.specs.declared.Files.{Files}
 use Rattle.tree.specs.Tree.{Tree, encode, tableRecs}
 use Rattle.tree.specs.Trans.{Class, fixed, asTree, infoOf, nums, join, joinAll, choice, letClass, rowClasses, blockClass}
-use Rattle.tree.specs.Claims.{exprAt, typeAt, infoAt, dataAt, nextAt, refsAt, Accepted}
+use Rattle.tree.specs.Claims.{typeAt, infoAt, dataAt, nextAt, refsAt, Accepted}
 use Rattle.tree.proofs.Infos.{join-info, choice-info, let-info}
 use Rattle.tree.proofs.Accepted.{LetIs, BlockIs, const-is, col-is, classof-is, not-is, binop-is, if-is, let-is, block-is, exists-is, single-is}
 use Rattle.label.specs.Claims.{classAt, IsTree, IsBinop, Told}

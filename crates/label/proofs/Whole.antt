@@ -1,13 +1,12 @@
 -- SELECT: what an accepted view tells its writer, and the bytes of its tree from those of its parts.
 -- Assumes nothing.
-use Prim.Native.Nat.{ℕ, zero, suc, _+_, _-_, _*_, _<_, _≤_}
+use Prim.Native.Nat.{ℕ, zero, suc, _+_, _-_, _<_, _≤_}
 use mathlib.Core.Path.{_≡_, refl, sym, ap, ap₂, subst, _∙_}
 use mathlib.Core.Bool.{Bool, true, false, cond}
 use mathlib.Core.List.{List, [], _∷_, _++_, map, append-assoc}
 use native.Mathlib.Omega.{arith}
-use lib.ListN.{length, getD, drop, replicate}
+use lib.ListN.{length, getD, drop}
 use lib.Seq.{getD-drop, drop-drop}
-use Rattle.word.specs.Header.{drt, header, countAt}
 use Rattle.word.specs.Buffer.{Wrote}
 use Rattle.word.proofs.Writing.{put-nil}
 use Rattle.word.specs.Record.{recBytes}
@@ -15,39 +14,18 @@ use Rattle.class.specs.Class.{dominatesb}
 use Rattle.class.specs.Info.{boundOf}
 use Rattle.class.specs.declared.Info.{Info}
 use Rattle.class.specs.declared.Info.the-variants.{Fixed}
-use Rattle.cell.specs.declared.Type.{«Type» as Ty}
-use Rattle.cell.specs.declared.Type.the-variants as T
-use Rattle.catalogue.specs.Tables.{Table, TabRef, tablesFrom}
-use Rattle.view.specs.Ast.{Exp, Block, Parsed, ok, nextOf}
-use Rattle.view.specs.Record.{nodeAt}
-use Rattle.view.specs.Parse.{many, namesAt, parseValue, parseView}
-use Rattle.view.specs.declared.Node.{Node}
-use Rattle.view.specs.declared.Node.the-variants.{Select as Sel}
-use Rattle.view.proofs.Read.{InBlock, was-read, next-is, here-ok, more-ok, none-ok}
-use Rattle.view.proofs.Whole.{Taken, taken, taken-count}
-use Rattle.scope.specs.Scopes.{Open}
-use Rattle.scope.specs.Table.{openOf, scopesOf, infosOf, blank}
-use Rattle.scope.specs.Blocks.{Tabs, all, tablesNamed, refsOf, opened}
-use Rattle.scope.specs.Entry.{openedBy, openedAs, blockScope, tablesIn, rowsOf, classesOf, Among}
+use Rattle.catalogue.specs.Tables.{TabRef}
+use Rattle.view.proofs.Read.{next-is}
 use Rattle.scope.specs.declared.Scope.{Scope}
-use Rattle.scope.specs.declared.Opened.{Opened}
-use Rattle.scope.proofs.Named.{BlockOpened, block-opened, names-length}
-use Rattle.resolve.specs.Expr.{Expr, Select}
-use Rattle.resolve.specs.Resolve.{good, resolve, Outs, goods, resolveAll, Resolved, select, refused as denied, resolveView}
-use Rattle.resolve.specs.Claims.{Lent, Ready, resolvedBy, verdictOf}
 use Rattle.resolve.specs.declared.Files.{Files}
-use Rattle.resolve.specs.declared.Verdict.the-variants as verdict
-use Rattle.resolve.proofs.Inversion.{ViewGood, view-good, all-good}
-use Rattle.tree.specs.Tree.{Tree, SelectTree, BINOP, DOM, ROWCLASS, CLASS, sizeSelect, tableRecs, encode, encodePairs, encodeSelect, treeFile}
-use Rattle.tree.specs.Trans.{D, C, Class, fixed, asTree, bound, infoOf, byInfo, nums}
-use Rattle.tree.specs.Select.{test, tableTests, conj, root, translated}
-use Rattle.tree.specs.Claims.{exprAt, typeAt, dataAt, nextAt, refsAt, Tabled, Narrow, Accepted}
+use Rattle.tree.specs.Tree.{Tree, DOM, ROWCLASS, CLASS, encode}
+use Rattle.tree.specs.Trans.{Class, fixed, asTree, bound, infoOf, byInfo}
+use Rattle.tree.specs.Select.{test, tableTests, conj}
+use Rattle.tree.specs.Claims.{dataAt, nextAt, Accepted}
 use Rattle.tree.proofs.Infos.{bound-info}
-use Rattle.tree.proofs.Narrow.{narrow-null}
-use Rattle.tree.proofs.Accepted.{Is, accept}
 use Rattle.label.specs.Claims.{classAt}
-use Rattle.label.specs.Rows.{rowItem, rowsIn}
-use Rattle.label.specs.Whole.{selectIn, selectAt, treeAt, Viewed, Accepts, pairBytes, flat, testBytes, classesIn, domBytes, flatSize, testSize}
+use Rattle.label.specs.Rows.{rowItem}
+use Rattle.label.specs.Whole.{Accepts, pairBytes, flat, testBytes, domBytes, flatSize, testSize}
 use Rattle.label.proofs.Joins.{class-bytes}
 use Rattle.label.proofs.FromLeft.{row-info}
 

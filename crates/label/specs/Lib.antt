@@ -4,3 +4,4 @@ pub mod Claims
 pub mod Rows
 pub mod Found
 pub mod Whole
+pub mod Left

@@ -39,11 +39,13 @@ fn known(
     depth: usize,
     t: [scope::Scope; 16],
     deep: usize,
+    pad: &mut [u64; 1024],
 ) -> Part
     requires { ⌜ Accepted (now cat) (now starts) (now view) f t deep depth at ⌝ }
     ensures { λ r. ⌜ Told (now (cat .entry)) (now (view .entry)) f t deep depth at r ⌝ }
 {
-    match resolve::value(cat, starts, view, f, at, depth, t, deep) {
+    let mut held = scope::words_of(t);
+    match resolve::value(cat, starts, view, f, at, depth, &mut held, deep, pad) {
         resolve::Typed::Is(x) => {
             let ty = x.ty;
             let info = x.info;
@@ -107,6 +109,7 @@ fn write_row(h: scope::Found, out: &mut [u8], to: usize) -> usize
 }
 
 // The class of the value at a record, as a tree: one record where it is fixed.
+// The pad is scratch for the walk of names and types; what it holds afterwards isn't said.
 pub fn write_c(
     cat: &[u8],
     starts: &[u16; 32],
@@ -118,16 +121,17 @@ pub fn write_c(
     deep: usize,
     out: &mut [u8],
     to: usize,
+    pad: &mut [u64; 1024],
 ) -> usize
     requires { ⌜ Accepted (now cat) (now starts) (now view) f t deep depth at ⌝ }
     requires { ⌜ Room (now out) to (encode (asTree (classAt (now cat) (now view) f t deep depth at))) ⌝ }
     ensures { λ r. ⌜ Wrote (now (out .entry)) to (encode (asTree (classAt (now (cat .entry)) (now (view .entry)) f t deep depth at))) (now (out .exit)) r ⌝ }
 {
-    let x = known(cat, starts, view, f, at, depth, t, deep);
+    let x = known(cat, starts, view, f, at, depth, t, deep, pad);
     let i = x.info;
     match i {
         class::Info::Fixed(k) => word::put_rec(out, to, 6, 0, k, 0, 0),
-        class::Info::Bound(_) => write_open(cat, starts, view, f, at, depth, t, deep, out, to),
+        class::Info::Bound(_) => write_open(cat, starts, view, f, at, depth, t, deep, out, to, pad),
     }
 }
 
@@ -143,6 +147,7 @@ fn write_open(
     deep: usize,
     out: &mut [u8],
     to: usize,
+    pad: &mut [u64; 1024],
 ) -> usize
     requires { ⌜ Accepted (now cat) (now starts) (now view) f t deep depth at ⌝ }
     requires { ⌜ IsTree (classAt (now cat) (now view) f t deep depth at) ⌝ }
@@ -151,9 +156,21 @@ fn write_open(
 {
     match view::node_at(view, at) {
         view::Node::Const(_, _) => to,
-        view::Node::Binop(_) => write_binop(cat, starts, view, f, at, depth, t, deep, out, to),
-        view::Node::Not => write_c(cat, starts, view, f, at + 1, depth - 1, t, deep, out, to),
-        view::Node::If => write_if(cat, starts, view, f, at, depth, t, deep, out, to),
+        view::Node::Binop(_) => write_binop(cat, starts, view, f, at, depth, t, deep, out, to, pad),
+        view::Node::Not => write_c(
+            cat,
+            starts,
+            view,
+            f,
+            at + 1,
+            depth - 1,
+            t,
+            deep,
+            out,
+            to,
+            pad,
+        ),
+        view::Node::If => write_if(cat, starts, view, f, at, depth, t, deep, out, to, pad),
         view::Node::Exists(a, q) => write_block(
             cat,
             starts,
@@ -167,6 +184,7 @@ fn write_open(
             resolve::Asked::Rows(q),
             out,
             to,
+            pad,
         ),
         view::Node::Single(a, g) => write_block(
             cat,
@@ -181,6 +199,7 @@ fn write_open(
             resolve::Asked::Values(g),
             out,
             to,
+            pad,
         ),
         view::Node::Table(_) => to,
         view::Node::Select(_, _) => to,
@@ -190,7 +209,20 @@ fn write_open(
             out,
             to,
         ),
-        view::Node::Let(name) => write_let(cat, starts, view, f, at, depth, t, deep, name, out, to),
+        view::Node::Let(name) => write_let(
+            cat,
+            starts,
+            view,
+            f,
+            at,
+            depth,
+            t,
+            deep,
+            name,
+            out,
+            to,
+            pad,
+        ),
         view::Node::Bad => to,
     }
 }
@@ -207,6 +239,7 @@ fn write_binop(
     deep: usize,
     out: &mut [u8],
     to: usize,
+    pad: &mut [u64; 1024],
 ) -> usize
     requires { ⌜ Accepted (now cat) (now starts) (now view) f t deep depth at ⌝ }
     requires { ⌜ IsTree (classAt (now cat) (now view) f t deep depth at) × IsBinop (now view) at ⌝ }
@@ -215,7 +248,7 @@ fn write_binop(
 {
     let left = at + 1;
     let down = depth - 1;
-    let x = known(cat, starts, view, f, left, down, t, deep);
+    let x = known(cat, starts, view, f, left, down, t, deep, pad);
     let right = x.next;
     let i = x.info;
     match i {
@@ -231,6 +264,7 @@ fn write_binop(
             deep,
             out,
             to,
+            pad,
         ),
         class::Info::Bound(_) => write_lub(
             cat,
@@ -244,6 +278,7 @@ fn write_binop(
             deep,
             out,
             to,
+            pad,
         ),
     }
 }
@@ -261,6 +296,7 @@ fn write_lub(
     deep: usize,
     out: &mut [u8],
     to: usize,
+    pad: &mut [u64; 1024],
 ) -> usize
     requires { ⌜ Accepted (now cat) (now starts) (now view) f t deep depth x ⌝ }
     requires { ⌜ Accepted (now cat) (now starts) (now view) f t deep depth y ⌝ }
@@ -268,8 +304,8 @@ fn write_lub(
     ensures { λ r. ⌜ Wrote (now (out .entry)) to (recBytes 25 0 0 0 0 ++ (encode (asTree (classAt (now (cat .entry)) (now (view .entry)) f t deep depth x)) ++ encode (asTree (classAt (now (cat .entry)) (now (view .entry)) f t deep depth y)))) (now (out .exit)) r ⌝ }
 {
     let p = word::put_rec(out, to, 25, 0, 0, 0, 0);
-    let q = write_c(cat, starts, view, f, x, depth, t, deep, out, p);
-    write_c(cat, starts, view, f, y, depth, t, deep, out, q)
+    let q = write_c(cat, starts, view, f, x, depth, t, deep, out, p, pad);
+    write_c(cat, starts, view, f, y, depth, t, deep, out, q, pad)
 }
 
 // IF: LUB of the condition's class and the choice, the choice first where the condition's class is fixed.
@@ -284,6 +320,7 @@ fn write_if(
     deep: usize,
     out: &mut [u8],
     to: usize,
+    pad: &mut [u64; 1024],
 ) -> usize
     requires { ⌜ Accepted (now cat) (now starts) (now view) f t deep depth at ⌝ }
     requires { ⌜ IsTree (classAt (now cat) (now view) f t deep depth at) × (nodeAt (now view) at ≡ If) ⌝ }
@@ -292,9 +329,9 @@ fn write_if(
 {
     let test = at + 1;
     let down = depth - 1;
-    let c = known(cat, starts, view, f, test, down, t, deep);
+    let c = known(cat, starts, view, f, test, down, t, deep, pad);
     let left = c.next;
-    let x = known(cat, starts, view, f, left, down, t, deep);
+    let x = known(cat, starts, view, f, left, down, t, deep, pad);
     let right = x.next;
     let i = c.info;
     let p = word::put_rec(out, to, 25, 0, 0, 0, 0);
@@ -313,11 +350,12 @@ fn write_if(
                 deep,
                 out,
                 p,
+                pad,
             );
-            write_c(cat, starts, view, f, test, down, t, deep, out, q)
+            write_c(cat, starts, view, f, test, down, t, deep, out, q, pad)
         }
         class::Info::Bound(_) => {
-            let q = write_c(cat, starts, view, f, test, down, t, deep, out, p);
+            let q = write_c(cat, starts, view, f, test, down, t, deep, out, p, pad);
             write_choice(
                 cat,
                 starts,
@@ -331,6 +369,7 @@ fn write_if(
                 deep,
                 out,
                 q,
+                pad,
             )
         }
     }
@@ -350,6 +389,7 @@ fn write_choice(
     deep: usize,
     out: &mut [u8],
     to: usize,
+    pad: &mut [u64; 1024],
 ) -> usize
     requires { ⌜ Accepted (now cat) (now starts) (now view) f t deep depth c ⌝ }
     requires { ⌜ Accepted (now cat) (now starts) (now view) f t deep depth x ⌝ }
@@ -357,8 +397,8 @@ fn write_choice(
     requires { ⌜ Room (now out) to (encode (asTree (choice (dataAt (now cat) (now view) f t deep depth c) (classAt (now cat) (now view) f t deep depth x) (classAt (now cat) (now view) f t deep depth y)))) ⌝ }
     ensures { λ r. ⌜ Wrote (now (out .entry)) to (encode (asTree (choice (dataAt (now (cat .entry)) (now (view .entry)) f t deep depth c) (classAt (now (cat .entry)) (now (view .entry)) f t deep depth x) (classAt (now (cat .entry)) (now (view .entry)) f t deep depth y)))) (now (out .exit)) r ⌝ }
 {
-    let a = known(cat, starts, view, f, x, depth, t, deep);
-    let b = known(cat, starts, view, f, y, depth, t, deep);
+    let a = known(cat, starts, view, f, x, depth, t, deep, pad);
+    let b = known(cat, starts, view, f, y, depth, t, deep, pad);
     let i = a.info;
     let j = b.info;
     let h = class::chosen(i, j);
@@ -366,10 +406,10 @@ fn write_choice(
         class::Info::Fixed(k) => word::put_rec(out, to, 6, 0, k, 0, 0),
         class::Info::Bound(_) => {
             let p = word::put_rec(out, to, 9, 0, 0, 0, 0);
-            let d = tree::write_d(cat, starts, view, f, c, depth, t, deep, out, p);
+            let d = tree::write_d(cat, starts, view, f, c, depth, t, deep, out, p, pad);
             let q = d.to;
-            let r = write_c(cat, starts, view, f, x, depth, t, deep, out, q);
-            write_c(cat, starts, view, f, y, depth, t, deep, out, r)
+            let r = write_c(cat, starts, view, f, x, depth, t, deep, out, q, pad);
+            write_c(cat, starts, view, f, y, depth, t, deep, out, r, pad)
         }
     }
 }
@@ -387,6 +427,7 @@ fn write_let(
     name: u16,
     out: &mut [u8],
     to: usize,
+    pad: &mut [u64; 1024],
 ) -> usize
     requires { ⌜ Accepted (now cat) (now starts) (now view) f t deep depth at ⌝ }
     requires { ⌜ IsTree (classAt (now cat) (now view) f t deep depth at) × (nodeAt (now view) at ≡ Let name) ⌝ }
@@ -396,7 +437,7 @@ fn write_let(
     let own = at + 1;
     let down = depth - 1;
     let inner = deep + 1;
-    let x = known(cat, starts, view, f, own, down, t, deep);
+    let x = known(cat, starts, view, f, own, down, t, deep, pad);
     let body = x.next;
     let ty = x.ty;
     let i = x.info;
@@ -405,16 +446,16 @@ fn write_let(
     match i {
         class::Info::Fixed(_) => {
             let p = word::put_rec(out, to, 23, 0, 0, 0, 0);
-            let d = tree::write_d(cat, starts, view, f, own, down, t, deep, out, p);
+            let d = tree::write_d(cat, starts, view, f, own, down, t, deep, out, p, pad);
             let q = d.to;
-            write_c(cat, starts, view, f, body, down, u, inner, out, q)
+            write_c(cat, starts, view, f, body, down, u, inner, out, q, pad)
         }
         class::Info::Bound(_) => {
             let p = word::put_rec(out, to, 24, 0, 0, 0, 0);
-            let q = write_c(cat, starts, view, f, own, down, t, deep, out, p);
-            let d = tree::write_d(cat, starts, view, f, own, down, t, deep, out, q);
+            let q = write_c(cat, starts, view, f, own, down, t, deep, out, p, pad);
+            let d = tree::write_d(cat, starts, view, f, own, down, t, deep, out, q, pad);
             let r = d.to;
-            write_c(cat, starts, view, f, body, down, u, inner, out, r)
+            write_c(cat, starts, view, f, body, down, u, inner, out, r, pad)
         }
     }
 }
@@ -433,6 +474,7 @@ fn write_block(
     asked: resolve::Asked,
     out: &mut [u8],
     to: usize,
+    pad: &mut [u64; 1024],
 ) -> usize
     requires { ⌜ Accepted (now cat) (now starts) (now view) f t deep depth at ⌝ }
     requires { ⌜ nodeAt (now view) at ≡ blockNode asked count ⌝ }
@@ -465,6 +507,7 @@ fn write_block(
         single,
         out,
         r,
+        pad,
     );
     word::put_rec(out, z, 6, 0, k, 0, 0)
 }
@@ -483,6 +526,7 @@ fn write_at_row(
     single: bool,
     out: &mut [u8],
     to: usize,
+    pad: &mut [u64; 1024],
 ) -> usize
     requires { ⌜ Accepted (now cat) (now starts) (now view) f t deep depth at × Rowed (now cat) (f .nc) s ⌝ }
     requires { ⌜ HasValue single (now cat) (now starts) (now view) f t deep depth at ⌝ }
@@ -490,11 +534,11 @@ fn write_at_row(
     ensures { λ r. ⌜ Wrote (now (out .entry)) to (encode (asTree (atRow single (now (cat .entry)) (now (view .entry)) f t deep depth at s))) (now (out .exit)) r ⌝ }
 {
     if !single {
-        return write_where(cat, starts, view, f, at, depth, t, deep, s, out, to);
+        return write_where(cat, starts, view, f, at, depth, t, deep, s, out, to, pad);
     }
-    let x = known(cat, starts, view, f, at, depth, t, deep);
+    let x = known(cat, starts, view, f, at, depth, t, deep, pad);
     let m = x.next;
-    let y = known(cat, starts, view, f, m, depth, t, deep);
+    let y = known(cat, starts, view, f, m, depth, t, deep, pad);
     let a = x.info;
     let b = y.info;
     let c = rows::info(s, cat, f.nc, last_of(s));
@@ -507,12 +551,12 @@ fn write_at_row(
             let p = word::put_rec(out, to, 25, 0, 0, 0, 0);
             match i {
                 class::Info::Fixed(_) => {
-                    let q = write_kept(cat, starts, view, f, at, m, depth, t, deep, out, p);
-                    write_where(cat, starts, view, f, at, depth, t, deep, s, out, q)
+                    let q = write_kept(cat, starts, view, f, at, m, depth, t, deep, out, p, pad);
+                    write_where(cat, starts, view, f, at, depth, t, deep, s, out, q, pad)
                 }
                 class::Info::Bound(_) => {
-                    let q = write_where(cat, starts, view, f, at, depth, t, deep, s, out, p);
-                    write_kept(cat, starts, view, f, at, m, depth, t, deep, out, q)
+                    let q = write_where(cat, starts, view, f, at, depth, t, deep, s, out, p, pad);
+                    write_kept(cat, starts, view, f, at, m, depth, t, deep, out, q, pad)
                 }
             }
         }
@@ -532,12 +576,13 @@ fn write_where(
     s: scope::Scope,
     out: &mut [u8],
     to: usize,
+    pad: &mut [u64; 1024],
 ) -> usize
     requires { ⌜ Accepted (now cat) (now starts) (now view) f t deep depth at × Rowed (now cat) (f .nc) s ⌝ }
     requires { ⌜ Room (now out) to (encode (asTree (atWhere (now cat) (now view) f t deep depth at s))) ⌝ }
     ensures { λ r. ⌜ Wrote (now (out .entry)) to (encode (asTree (atWhere (now (cat .entry)) (now (view .entry)) f t deep depth at s))) (now (out .exit)) r ⌝ }
 {
-    let x = known(cat, starts, view, f, at, depth, t, deep);
+    let x = known(cat, starts, view, f, at, depth, t, deep, pad);
     let a = x.info;
     let last = last_of(s);
     let i = rows::info(s, cat, f.nc, last);
@@ -548,12 +593,12 @@ fn write_where(
             let p = word::put_rec(out, to, 25, 0, 0, 0, 0);
             match i {
                 class::Info::Fixed(_) => {
-                    let q = write_c(cat, starts, view, f, at, depth, t, deep, out, p);
+                    let q = write_c(cat, starts, view, f, at, depth, t, deep, out, p, pad);
                     rows::write(s, cat, f.nc, last, out, q)
                 }
                 class::Info::Bound(_) => {
                     let q = rows::write(s, cat, f.nc, last, out, p);
-                    write_c(cat, starts, view, f, at, depth, t, deep, out, q)
+                    write_c(cat, starts, view, f, at, depth, t, deep, out, q, pad)
                 }
             }
         }
@@ -573,22 +618,23 @@ fn write_kept(
     deep: usize,
     out: &mut [u8],
     to: usize,
+    pad: &mut [u64; 1024],
 ) -> usize
     requires { ⌜ Accepted (now cat) (now starts) (now view) f t deep depth w ⌝ }
     requires { ⌜ Accepted (now cat) (now starts) (now view) f t deep depth x ⌝ }
     requires { ⌜ Room (now out) to (encode (asTree (atKept (now cat) (now view) f t deep depth w x))) ⌝ }
     ensures { λ r. ⌜ Wrote (now (out .entry)) to (encode (asTree (atKept (now (cat .entry)) (now (view .entry)) f t deep depth w x))) (now (out .exit)) r ⌝ }
 {
-    let a = known(cat, starts, view, f, x, depth, t, deep);
+    let a = known(cat, starts, view, f, x, depth, t, deep, pad);
     let i = a.info;
     let h = class::chosen(i, class::Info::Fixed(0));
     match h {
         class::Info::Fixed(k) => word::put_rec(out, to, 6, 0, k, 0, 0),
         class::Info::Bound(_) => {
             let p = word::put_rec(out, to, 9, 0, 0, 0, 0);
-            let d = tree::write_d(cat, starts, view, f, w, depth, t, deep, out, p);
+            let d = tree::write_d(cat, starts, view, f, w, depth, t, deep, out, p, pad);
             let q = d.to;
-            let r = write_c(cat, starts, view, f, x, depth, t, deep, out, q);
+            let r = write_c(cat, starts, view, f, x, depth, t, deep, out, q, pad);
             word::put_rec(out, r, 6, 0, 0, 0, 0)
         }
     }

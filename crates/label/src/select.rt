@@ -1,5 +1,5 @@
 // SELECT: the tests of its where, the pairs of its values, and the whole tree file.
-// The definitions are in specs/Whole.
+// The definitions are in specs/Whole, and in specs/Left what the walk left of its where and its values.
 ghost use mathlib.Core.Path.{_≡_};
 ghost use mathlib.Core.Bool.{cond};
 ghost use Prim.Native.Nat.{ℕ, _+_, _*_, _≤_};
@@ -10,14 +10,15 @@ ghost use Rattle.word.specs.Buffer.{Wrote, Room};
 ghost use Rattle.view.specs.Record.{nodeAt};
 ghost use Rattle.view.specs.declared.Node.the-variants.{Select};
 ghost use Rattle.scope.specs.Entry.{Among};
+ghost use Rattle.scope.specs.Table.{infosOf};
 ghost use Rattle.tree.specs.Tree.{encode, treeFile, sizeSelect};
 ghost use Rattle.tree.specs.Trans.{fixed, asTree, infoOf};
 ghost use Rattle.tree.specs.Select.{test};
 ghost use Rattle.tree.specs.Claims.{Accepted};
 ghost use Rattle.label.specs.Claims.{classAt};
+ghost use Rattle.label.specs.Left.{endIn, knownIn, LeftAll, LeftView, exprsAt};
 ghost use Rattle.label.specs.Rows.{rowItem, rowsIn};
 ghost use Rattle.label.specs.Whole.{Viewed, Accepts, selectAt, treeAt, pairBytes, flat, testBytes, testSize, classesIn, domBytes};
-use crate::known;
 use crate::rows;
 use crate::write_open;
 
@@ -101,6 +102,7 @@ fn write_known(
     info: class::Info,
     out: &mut [u8],
     to: usize,
+    pad: &mut [u64; 1024],
 ) -> usize
     requires { ⌜ Accepted (now cat) (now starts) (now view) f t 1 15 at ⌝ }
     requires { ⌜ info ≡ infoOf (classAt (now cat) (now view) f t 1 15 at) ⌝ }
@@ -109,11 +111,27 @@ fn write_known(
 {
     match info {
         class::Info::Fixed(k) => word::put_rec(out, to, 6, 0, k, 0, 0),
-        class::Info::Bound(_) => write_open(cat, starts, view, f, at, 15, t, 1, out, to),
+        class::Info::Bound(_) => write_open(cat, starts, view, f, at, 15, t, 1, out, to, pad),
     }
 }
 
-// The test of the class of the where at record `at`.
+// The record after a value, by its end w.
+fn end_in(w: u64) -> usize
+    ensures { λ r. ⌜ r ≡ endIn w ⌝ }
+{
+    (w % 65536) as usize
+}
+
+// What is known of a value's class, by its end w.
+fn known_in(w: u64) -> class::Info
+    ensures { λ r. ⌜ r ≡ knownIn w ⌝ }
+{
+    let m = (w / 4294967296 % 256) as u8;
+    let b = (w / 65536 % 65536) as u16;
+    class::info_by(m, b)
+}
+
+// The test of the class of the where at record `at`, of which `info` is known.
 fn write_where_test(
     cat: &[u8],
     starts: &[u16; 32],
@@ -121,25 +139,26 @@ fn write_where_test(
     f: resolve::Files,
     at: usize,
     t: [scope::Scope; 16],
+    info: class::Info,
     q: u16,
     out: &mut [u8],
     to: usize,
+    pad: &mut [u64; 1024],
 ) -> usize
     requires { ⌜ Accepted (now cat) (now starts) (now view) f t 1 15 at ⌝ }
+    requires { ⌜ info ≡ infoOf (classAt (now cat) (now view) f t 1 15 at) ⌝ }
     requires { ⌜ Room (now out) to (flat (test q (classAt (now cat) (now view) f t 1 15 at))) ⌝ }
     ensures { λ r. ⌜ Wrote (now (out .entry)) to (flat (test q (classAt (now (cat .entry)) (now (view .entry)) f t 1 15 at))) (now (out .exit)) r ⌝ }
 {
-    let x = known(cat, starts, view, f, at, 15, t, 1);
-    let i = x.info;
-    let b = class::bound_of(i);
+    let b = class::bound_of(info);
     if class::dominates(q, b) {
         return to;
     }
     let p = write_dom(q, out, to);
-    write_known(cat, starts, view, f, at, t, i, out, p)
+    write_known(cat, starts, view, f, at, t, info, out, p, pad)
 }
 
-// The pairs of data and class of so many values from record `at` on.
+// The pairs of data and class of so many values from record `at` on, the data from their notes; their ends are the words of `ends` after the first.
 fn write_pairs(
     cat: &[u8],
     starts: &[u16; 32],
@@ -148,28 +167,35 @@ fn write_pairs(
     at: usize,
     t: [scope::Scope; 16],
     count: usize,
+    notes: &[u64],
+    ends: &[u64],
     out: &mut [u8],
     to: usize,
+    pad: &mut [u64; 1024],
 ) -> usize
     requires { ⌜ Accepts (now cat) (now starts) (now view) f t count at ⌝ }
+    requires { ⌜ LeftAll (f .k) (infosOf t 1) (now notes) (now ends) 1 (exprsAt (now cat) (now view) f t count at) at ⌝ }
     requires { ⌜ Room (now out) to (pairBytes (now cat) (now view) f t count at) ⌝ }
     ensures { λ r. ⌜ Wrote (now (out .entry)) to (pairBytes (now (cat .entry)) (now (view .entry)) f t count at) (now (out .exit)) r ⌝ }
 {
     let mut i = count;
+    let mut j: usize = 1;
     let mut m = at;
     let mut u = to;
     while 0 < i {
-        let x = tree::write_d(cat, starts, view, f, m, 15, t, 1, out, u);
-        let p = x.to;
-        let info = x.info;
-        u = write_known(cat, starts, view, f, m, t, info, out, p);
-        m = x.next;
+        let w = ends[j];
+        let next = end_in(w);
+        let info = known_in(w);
+        let p = tree::write_noted(view, notes, m, next, out, u);
+        u = write_known(cat, starts, view, f, m, t, info, out, p, pad);
+        m = next;
+        j += 1;
         i -= 1;
     }
     u
 }
 
-// The tree's file of a SELECT of so many tables and values; its count of records is known, and there is room.
+// The tree's file of a SELECT of so many tables and values, its data from the notes; its count of records is known, and there is room.
 fn write_root(
     cat: &[u8],
     starts: &[u16; 32],
@@ -179,9 +205,13 @@ fn write_root(
     count: u16,
     tables: u16,
     values: u16,
+    notes: &[u64],
+    ends: &[u64],
     out: &mut [u8],
+    pad: &mut [u64; 1024],
 ) -> usize
     requires { ⌜ Viewed (now cat) (now starts) (now view) f × (nodeAt (now view) 0 ≡ Select tables values) ⌝ }
+    requires { ⌜ LeftView (now cat) (now view) f (now notes) (now ends) ⌝ }
     requires { ⌜ count ≡ sizeSelect (treeAt (now cat) (now view) f q) ⌝ }
     requires { ⌜ Room (now out) 0 (treeFile (treeAt (now cat) (now view) f q)) ⌝ }
     ensures { λ r. ⌜ Wrote (now (out .entry)) 0 (treeFile (treeAt (now (cat .entry)) (now (view .entry)) f q)) (now (out .exit)) r ⌝ }
@@ -195,14 +225,16 @@ fn write_root(
     let b = word::put_rec(out, a, 13, 0, tables, values, 0);
     let c = tree::table_recs(cat, f.nc, starts, f.tables, view, 1, m, out, b);
     let d = write_tests(s, cat, f.nc, q, 0, m, out, c);
-    let e = write_where_test(cat, starts, view, f, test, t, q, out, d);
-    let x = tree::write_d(cat, starts, view, f, test, 15, t, 1, out, e);
-    let first = x.next;
-    let p = x.to;
-    write_pairs(cat, starts, view, f, first, t, values as usize, out, p)
+    let w = ends[0];
+    let first = end_in(w);
+    let info = known_in(w);
+    let e = write_where_test(cat, starts, view, f, test, t, info, q, out, d, pad);
+    let p = tree::write_noted(view, notes, test, first, out, e);
+    let n = values as usize;
+    write_pairs(cat, starts, view, f, first, t, n, notes, ends, out, p, pad)
 }
 
-// The whole tree of an accepted view, under clearance q, into a buffer that has room for its `count` records.
+// The whole tree of an accepted view, under clearance q, with the notes and ends that were left of it, into a buffer that has room for its `count` records.
 pub fn write_tree(
     cat: &[u8],
     starts: &[u16; 32],
@@ -210,9 +242,12 @@ pub fn write_tree(
     f: resolve::Files,
     q: u16,
     count: u16,
+    notes: &[u64],
+    ends: &[u64],
     out: &mut [u8],
 ) -> usize
     requires { ⌜ Viewed (now cat) (now starts) (now view) f ⌝ }
+    requires { ⌜ LeftView (now cat) (now view) f (now notes) (now ends) ⌝ }
     requires { ⌜ count ≡ sizeSelect (treeAt (now cat) (now view) f q) ⌝ }
     requires { ⌜ Room (now out) 0 (treeFile (treeAt (now cat) (now view) f q)) ⌝ }
     ensures { λ r. ⌜ Wrote (now (out .entry)) 0 (treeFile (treeAt (now (cat .entry)) (now (view .entry)) f q)) (now (out .exit)) r ⌝ }
@@ -221,7 +256,21 @@ pub fn write_tree(
     let view::Node::Select(a, b) = node else {
         return 0;
     };
-    write_root(cat, starts, view, f, q, count, a, b, out)
+    let mut pad = [0u64; 1024];
+    write_root(
+        cat,
+        starts,
+        view,
+        f,
+        q,
+        count,
+        a,
+        b,
+        notes,
+        ends,
+        out,
+        &mut pad,
+    )
 }
 
 // At most 8,191.

@@ -29,7 +29,9 @@ fn of_view(cat: &[u8], view: &[u8], k: u16) -> Found {
                 let nc = word::u16_at(cat, 6) as usize;
                 let starts = catalogue::starts(cat, nc);
                 let f = resolve::Files { nc, tables, n, k };
-                match resolve::whole(cat, &starts, view, f) {
+                let mut notes = [0u64; 1024];
+                let mut ends = [0u64; 33];
+                match resolve::whole(cat, &starts, view, f, &mut notes, &mut ends) {
                     resolve::Verdict::Refused(number, place) => Found { number, place },
                     resolve::Verdict::Fine(_) => Found {
                         number: 0,

@@ -18,9 +18,10 @@ use Rattle.cell.specs.declared.Judged.the-variants as J
 use Rattle.scope.specs.declared.Found.{Found}
 use Rattle.scope.specs.declared.Found.the-variants as F
 use Rattle.resolve.specs.Sizes.{sizedI, weighed, joinW, choiceW, bindSize, letW, capped}
-use Rattle.resolve.specs.Steps.{classOf, stopped, knownBy, leafK, twoK, notK, broughtK, ifK, letK, ruledT, boolT, twoT, notT, ifT, colT, classT}
+use Rattle.resolve.specs.Steps.{classOf, stopped, knownBy, leafK, twoK, notK, broughtK, ifK, letK, ruledT, boolT, twoT, notT, ifT, letT, colT, classT}
 use Rattle.resolve.specs.declared.Weighed.{Weighed}
 use Rattle.resolve.specs.declared.Known.{Known}
+use Rattle.resolve.specs.declared.Typed.{Typed}
 use Rattle.resolve.specs.declared.Typed.the-variants as typed
 use Rattle.resolve.proofs.Weights.{Alike, alike-refl, alike-trans, weighed-alike, join-alike, known-alike}
 
@@ -167,6 +168,16 @@ module _ (at : ℕ) (x : Known) (kind : ℕ) (e : kind ≡ kindOf (x .ty)) where
       unfolding ifT boolT ruledT
       if-broken h = rw (eq-eqb (kindOf (x .ty)) 1 (sym e ∙ f), judged-broken _ (sym g ∙ h))
 
+-- LET.
+module _ (x : Known) (r : Typed) where
+  pub body-is : (y z : Known) → r ≡ typed.Is y → z ≡ letK x y → typed.Is z ≡ letT x r
+  unfolding letT
+  body-is y z e f = rw (e, f)
+
+  pub body-bad : (i p : ℕ) → r ≡ typed.Refused i p → typed.Refused i p ≡ letT x r
+  unfolding letT
+  body-bad i p e = rw e
+
 -- NAMES.
 module _ (at : ℕ) (h : Found) where
   pub col-column : (a b c : ℕ) (t : Ty) (i s : Info) (r : Known) → h ≡ F.Column a b c t i s → r ≡ leafK t i (at + 1) → typed.Is r ≡ colT at h
@@ -205,6 +216,6 @@ pub ruleset sizes = (fixed-size, tree-size, weighed-is, joined-is, chosen-is, bi
 
 pub ruleset knowns = (class-is, made-is, leaf-is, two-is, let-is, if-is, not-is, brought-same, brought-other, needs)
 
-pub ruleset answers = (two-ruled, two-broken, not-bool, not-other, if-other, if-ruled, if-broken, needs)
+pub ruleset answers = (two-ruled, two-broken, not-bool, not-other, if-other, if-ruled, if-broken, body-is, body-bad, needs)
 
 pub ruleset names = (col-column, col-local, col-none, col-more, class-column, class-local, class-none, class-more, needs)

@@ -1,7 +1,7 @@
 -- The root's block and the whole view: one law for each place of the code.
 -- Assumes nothing.
-use Prim.Native.Nat.{ℕ, _+_, _-_, _*_, _<_, _≤_}
-use mathlib.Core.Path.{_≡_, refl, sym, ap, _∙_}
+use Prim.Native.Nat.{ℕ, zero, suc, _+_, _-_, _*_, _<_, _≤_}
+use mathlib.Core.Path.{_≡_, refl, sym, ap, subst, _∙_}
 use mathlib.Core.Bool.{Bool, true, false, not, cond}
 use mathlib.Core.List.{List, [], _∷_}
 use native.Mathlib.Omega.{arith}
@@ -9,7 +9,7 @@ use borrow.Author.Needs.{needs}
 use borrow.Author.Tests.{eq-eqb, ne-eqb}
 use types.Run.{OneOf, miss}
 use lib.Dec.{eqb}
-use lib.ListN.{length, replicate}
+use lib.ListN.{length, getD, replicate}
 use Rattle.word.specs.Header.{countAt}
 use Rattle.class.specs.declared.Info.{Info}
 use Rattle.class.specs.declared.Info.the-variants.{Fixed}
@@ -25,7 +25,8 @@ use Rattle.view.proofs.Read.{InBlock, block-ok, here-ok, was-read, more-ok, non
 use Rattle.view.proofs.Says.{select-few}
 use Rattle.view.proofs.Whole.{Taken, taken, taken-count, select-read}
 use Rattle.scope.specs.Scopes.{Open}
-use Rattle.scope.specs.Table.{scopesOf, infosOf}
+use Rattle.scope.specs.Table.{blank, scopesOf, infosOf}
+use Rattle.scope.specs.Words.{typeIn}
 use Rattle.scope.specs.Blocks.{Tabs, tablesNamed, refsOf, opened}
 use Rattle.scope.specs.Entry.{openedBy}
 use Rattle.scope.specs.declared.Scope.{Scope}
@@ -33,10 +34,11 @@ use Rattle.scope.specs.declared.Opened.{Opened}
 use Rattle.scope.proofs.Named.{BlockOpened, block-missing, block-opened}
 use Rattle.resolve.specs.Expr.{Expr}
 use Rattle.resolve.specs.Resolve.{Out, good, bad, resolve, Outs, goods, bads, alsoOut, resolveAll, select, refused as denied, withValues, withTest, withTabs, resolveView}
+use Rattle.resolve.specs.Notes.{NotedView, EndedView}
 use Rattle.resolve.specs.Infos.{classInfo}
 use Rattle.resolve.specs.Sizes.{sizeD, weigh, capped, pairsSize, sumsOf}
 use Rattle.resolve.specs.Typed.{knownOf}
-use Rattle.resolve.specs.Claims.{Ready, answerAt, Accepted, Rooted, Several, resolvedBy, resolvedAll, verdictOf, verdictAll}
+use Rattle.resolve.specs.Claims.{Narrow, Ready, answerAt, Accepted, Rooted, Several, resolvedBy, resolvedAll, verdictOf, verdictAll}
 use Rattle.resolve.specs.declared.Counted.{Counted}
 use Rattle.resolve.specs.declared.Counted.the-variants as counted
 use Rattle.resolve.specs.declared.Files.{Files}
@@ -46,6 +48,7 @@ use Rattle.resolve.specs.declared.Typed.the-variants as typed
 use Rattle.resolve.specs.declared.Verdict.{Verdict}
 use Rattle.resolve.specs.declared.Verdict.the-variants as verdict
 use Rattle.resolve.proofs.Inversion.{GoodAt, typed-known, typed-refused}
+use Rattle.resolve.proofs.Narrow.{narrow-entry}
 use Rattle.resolve.proofs.Turns.{after}
 use Rattle.resolve.proofs.Weights.{plus-capped}
 use Rattle.resolve.proofs.Scoped.{not-true, not-false}
@@ -119,7 +122,7 @@ module _ (c ss v : List ℕ) (f : Files) (t : List Scope) where
           let h = more-ok p (count - j) m (omega arith) (w .several .is-read) in
           let r = was-read (h .first) in
           let g = here-ok v (f .n) 15 m r in
-          record { lent = w .several .lent; sized = w .several .sized; not-many = omega arith; is-read = r; here = g .here; left = omega arith }
+          record { lent = w .several .lent; sized = w .several .sized; not-many = omega arith; is-read = r; here = g .here; left = omega arith; narrow = w .several .narrow }
 
       module _ (r : Typed) (e : r ≡ answerAt c v f t 1 15 m) where
         pub left-refused : (i q : ℕ) → r ≡ typed.Refused i q → counted.Refused i q ≡ valuesFrom count at
@@ -138,17 +141,14 @@ module _ (c ss v : List ℕ) (f : Files) (t : List Scope) where
             let rest : many p (count - (j + 1)) (x .next) ≡ ok (h .tail) (h .end) = rw (z, to) at (h .rest) in
             let two : a ≡ capped (capped (sizeD (k .x)) + capped (weigh (f .k) (infosOf t 1) (k .x) .size)) = ea ∙ ap (λ (y : Known). capped (y .values + y .classes)) (k .known) in
             record {
-              several = record { lent = w .several .lent; sized = w .several .sized; is-read = was-read rest };
+              several = record { lent = w .several .lent; sized = w .several .sized; is-read = was-read rest; narrow = w .several .narrow };
               small = omega (arith, eb);
               same = w .same ∙ rw (h .whole, rest) (also-good n (f .k) (infosOf t 1) _ _ (k .x) (k .t) a b (k .resolved) two eb);
             }
 
-pub ruleset lefts = (left-begin, left-done, left-ready, left-refused, left-again, needs)
-
-read-view : (k : ℕ) (cat : List Table) (P : Parsed Block) (b : Block) (end : ℕ) → P ≡ ok b end
-    → verdictOf k (resolvedBy cat P) ≡ verdictOf k (withTabs cat b (tablesNamed cat (b .tables)))
+read-view : (cat : List Table) (P : Parsed Block) (b : Block) (end : ℕ) → P ≡ ok b end → resolvedBy cat P ≡ withTabs cat b (tablesNamed cat (b .tables))
 unfolding resolvedBy resolveView
-read-view k cat P b end e = rw e
+read-view cat P b end e = rw e
 
 -- THE ROOT, by its tables, its where and its values
 test-bad : (k : ℕ) (ts : List TabRef) (o : Out) (vs : Outs) (i q : ℕ) → o ≡ bad i q → verdictOf k (withTest ts o vs) ≡ verdict.Refused i q
@@ -191,14 +191,17 @@ module _ (c ss v : List ℕ) (f : Files) (tables count : ℕ) (w : Rooted c ss v
   abbrev rootAnswer : Verdict
   rootAnswer = verdictOf (f .k) (resolvedBy (tablesFrom c (f .nc) (f .nc) 0) (parseBlock v (f .n) 15 (parseValue v (f .n) 15) tables count 1))
 
-  parts : InBlock v (f .n) (parseValue v (f .n) 15) tables count 1 (w .is-read .tree) (w .is-read .end)
+  pub parts : InBlock v (f .n) (parseValue v (f .n) 15) tables count 1 (w .is-read .tree) (w .is-read .end)
   parts = block-ok v (f .n) 15 (parseValue v (f .n) 15) tables count 1 (w .is-read .is)
 
   abbrev tabs : Tabs
   tabs = tablesNamed (tablesFrom c (f .nc) (f .nc) 0) (namesAt v 1 tables)
 
+  out-tables : resolvedBy cat (parseBlock v (f .n) 15 (parseValue v (f .n) 15) tables count 1) ≡ withTabs cat b tabs
+  out-tables = read-view cat _ b (w .is-read .end) (w .is-read .is) ∙ ap (λ (xs : List TabName). withTabs cat b (tablesNamed cat xs)) (parts .names)
+
   by-tables : rootAnswer ≡ verdictOf (f .k) (withTabs cat b tabs)
-  by-tables = read-view (f .k) cat _ b (w .is-read .end) (w .is-read .is) ∙ ap (λ (xs : List TabName). verdictOf (f .k) (withTabs cat b (tablesNamed cat xs))) (parts .names)
+  by-tables = ap (verdictOf (f .k)) out-tables
 
   where-here : 1 + tables < f .n
   where-here = here-ok v (f .n) 15 (1 + tables) (was-read (parts .first)) .here
@@ -213,31 +216,42 @@ module _ (c ss v : List ℕ) (f : Files) (tables count : ℕ) (w : Rooted c ss v
     root-6 z = sym (by-tables ∙ rw (block-missing ss tabs o q (not-true (o .fine) z)))
 
     module _ (z : not (o .fine) ≡ false) where
-      there : BlockOpened c (f .nc) (tablesNamed (tablesFrom c (f .nc) (f .nc) 0) (namesAt v 1 tables)) (o .scope)
+      pub there : BlockOpened c (f .nc) (tablesNamed (tablesFrom c (f .nc) (f .nc) 0) (namesAt v 1 tables)) (o .scope)
       there = block-opened c (f .nc) (f .tables) ss v 1 tables o (w .lent .starts) (w .lent .cat-few) (w .some-tables, w .few-tables) q (not-false (o .fine) z)
 
       abbrev t : List Scope
       t = replicate 16 (o .scope)
 
+      root-narrow : (j : ℕ) → j < 1 → Narrow (typeIn (getD (replicate 16 (o .scope)) j blank))
+      root-narrow zero l = narrow-entry (o .scope) (there .untyped)
+      root-narrow (suc j) l = absurd (omega arith)
+
       pub root-ready : Ready c ss v f (replicate 16 (o .scope)) 1 15 (1 + tables)
-      root-ready = record { lent = w .lent; sized = refl; not-many = omega arith; is-read = was-read (parts .first); here = where-here; left = omega arith }
+      root-ready = record { lent = w .lent; sized = refl; not-many = omega arith; is-read = was-read (parts .first); here = where-here; left = omega arith; narrow = root-narrow }
 
       root-scopes : scopesOf c (f .nc) (replicate 16 (o .scope)) 1 ≡ opened (refsOf tabs) ∷ []
       unfolding scopesOf
       root-scopes = ap (λ (s : Open). s ∷ []) (there .opens)
 
-      root-infos : infosOf (replicate 16 (o .scope)) 1 ≡ Fixed 0 ∷ []
+      pub root-infos : infosOf (replicate 16 (o .scope)) 1 ≡ Fixed 0 ∷ []
       unfolding infosOf
       root-infos = ap (λ (i : Info). i ∷ []) (there .known)
 
       abbrev outs : Outs
       outs = resolveAll (tablesFrom c (f .nc) (f .nc) 0) (scopesOf c (f .nc) (replicate 16 (o .scope)) 1) (w .is-read .tree .values)
 
-      by-parts : rootAnswer ≡ verdictOf (f .k) (withTest (refsOf tabs) (resolve cat (scopesOf c (f .nc) (replicate 16 (o .scope)) 1) (b .test)) outs)
+      -- what the root resolves to, by its parts
+      pub out-parts : resolvedBy (tablesFrom c (f .nc) (f .nc) 0) (parseBlock v (f .n) 15 (parseValue v (f .n) 15) tables count 1)
+          ≡ withTest (refsOf (tablesNamed (tablesFrom c (f .nc) (f .nc) 0) (namesAt v 1 tables)))
+          (resolve (tablesFrom c (f .nc) (f .nc) 0) (scopesOf c (f .nc) (replicate 16 (o .scope)) 1) (w .is-read .tree .test))
+          (resolveAll (tablesFrom c (f .nc) (f .nc) 0) (scopesOf c (f .nc) (replicate 16 (o .scope)) 1) (w .is-read .tree .values))
       unfolding withTabs
-      by-parts =
-          by-tables ∙ ap (λ (T : Tabs). verdictOf (f .k) (withTabs cat b T)) (there .found)
-          ∙ ap (λ (Γ : List Open). verdictOf (f .k) (withTest (refsOf tabs) (resolve cat Γ (b .test)) (resolveAll cat Γ (b .values)))) (sym root-scopes)
+      out-parts =
+          out-tables ∙ ap (withTabs cat b) (there .found)
+          ∙ ap (λ (Γ : List Open). withTest (refsOf tabs) (resolve cat Γ (b .test)) (resolveAll cat Γ (b .values))) (sym root-scopes)
+
+      by-parts : rootAnswer ≡ verdictOf (f .k) (withTest (refsOf tabs) (resolve cat (scopesOf c (f .nc) (replicate 16 (o .scope)) 1) (b .test)) outs)
+      by-parts = ap (verdictOf (f .k)) out-parts
 
       module _ (l : Typed) (a : l ≡ answerAt c v f (replicate 16 (o .scope)) 1 15 (1 + tables)) where
         pub root-refused : (i k : ℕ) → l ≡ typed.Refused i k → verdict.Refused i k
@@ -253,11 +267,11 @@ module _ (c ss v : List ℕ) (f : Files) (tables count : ℕ) (w : Rooted c ss v
           unfolding knownOf
           type-is = ap (λ (h : Known). h .ty) (known .known)
 
-          values-at : many (parseValue v (f .n) 15) count (x .next) ≡ ok (b .values) (w .is-read .end)
+          pub values-at : many (parseValue v (f .n) 15) count (x .next) ≡ ok (b .values) (w .is-read .end)
           values-at = rw (after (f .k) cat _ (infosOf t 1) _ (parts .first) (sym a ∙ g)) at (parts .rest)
 
           pub values-ready : Several c ss v f (replicate 16 (o .scope)) count (x .next)
-          values-ready = record { lent = w .lent; sized = refl; is-read = was-read values-at }
+          values-ready = record { lent = w .lent; sized = refl; is-read = was-read values-at; narrow = root-narrow }
 
           module _ (r : Counted) (h : r ≡ verdictAll (f .k) (infosOf (replicate 16 (o .scope)) 1) (resolvedAll (tablesFrom c (f .nc) (f .nc) 0) (scopesOf c (f .nc) (replicate 16 (o .scope)) 1) (many (parseValue v (f .n) 15) count (x .next)))) where
             outs-are : r ≡ verdictAll (f .k) (infosOf (replicate 16 (o .scope)) 1) outs
@@ -285,8 +299,6 @@ module _ (c ss v : List ℕ) (f : Files) (tables count : ℕ) (w : Rooted c ss v
               pub root-9 : (kind ≡ 1 → ⊥) → verdict.Refused 9 0
                   ≡ verdictOf (f .k) (resolvedBy (tablesFrom c (f .nc) (f .nc) 0) (parseBlock v (f .n) 15 (parseValue v (f .n) 15) tables count 1))
               root-9 e = sym (judged ∙ rw (ne-eqb (kindOf (known .t)) 1 (λ d. e (kind-is ∙ d))))
-
-pub ruleset roots = (root-6, root-ready, root-refused, values-ready, values-refused, root-9, needs)
 
 -- THE WHOLE VIEW
 -- SELECT's variant is none of the others
@@ -321,14 +333,26 @@ module _ (c ss v : List ℕ) (f : Files) (w : Accepted c ss v f) where
           is-read = select-read v whole-taken e count-is g;
         }
 
-    pub whole-done : (r : Verdict) → r ≡ verdictOf (f .k) (resolvedBy (tablesFrom c (f .nc) (f .nc) 0) (parseBlock v (f .n) 15 (parseValue v (f .n) 15) a b 1))
-        → r ≡ verdictOf (f .k) (resolvedBy (tablesFrom c (f .nc) (f .nc) 0) (parseView v))
-    whole-done r h =
+    -- the root's block is the whole view
+    whole-parsed : parseBlock v (f .n) 15 (parseValue v (f .n) 15) a b 1 ≡ parseView v
+    whole-parsed =
         let s : SelectNode (whole-taken .tables) (whole-taken .values) ≡ SelectNode a b = sym (whole-taken .root) ∙ sym e ∙ g in
         let x : whole-taken .tables ≡ a = cc in
         let y : whole-taken .values ≡ b = cc in
         let n = count-is in
-        let z : parseBlock v (f .n) 15 (parseValue v (f .n) 15) a b 1 ≡ parseView v = rw (n, ← x, ← y) (whole-taken .read ∙ sym (whole-taken .whole)) in
-        h ∙ ap (λ (P : Parsed Block). verdictOf (f .k) (resolvedBy (tablesFrom c (f .nc) (f .nc) 0) P)) z
+        rw (n, ← x, ← y) (whole-taken .read ∙ sym (whole-taken .whole))
 
-pub ruleset wholes = (whole-room, whole-rooted, whole-done, needs)
+    pub whole-done : (r : Verdict) (o o′ s s′ : List ℕ) → r ≡ verdictOf (f .k) (resolvedBy (tablesFrom c (f .nc) (f .nc) 0) (parseBlock v (f .n) 15 (parseValue v (f .n) 15) a b 1))
+        → NotedView (resolvedBy (tablesFrom c (f .nc) (f .nc) 0) (parseBlock v (f .n) 15 (parseValue v (f .n) 15) a b 1)) o o′
+        → EndedView (f .k) (resolvedBy (tablesFrom c (f .nc) (f .nc) 0) (parseBlock v (f .n) 15 (parseValue v (f .n) 15) a b 1)) s s′
+        → (r ≡ verdictOf (f .k) (resolvedBy (tablesFrom c (f .nc) (f .nc) 0) (parseView v)))
+        × (NotedView (resolvedBy (tablesFrom c (f .nc) (f .nc) 0) (parseView v)) o o′ × EndedView (f .k) (resolvedBy (tablesFrom c (f .nc) (f .nc) 0) (parseView v)) s s′)
+    whole-done r o o′ s s′ h k l = let z = whole-parsed in (
+      h ∙ ap (λ (P : Parsed Block). verdictOf (f .k) (resolvedBy (tablesFrom c (f .nc) (f .nc) 0) P)) z,
+      (
+        subst (λ (P : Parsed Block). NotedView (resolvedBy (tablesFrom c (f .nc) (f .nc) 0) P) o o′) z k,
+        subst (λ (P : Parsed Block). EndedView (f .k) (resolvedBy (tablesFrom c (f .nc) (f .nc) 0) P) s s′) z l,
+      ),
+    )
+
+pub ruleset wholes = (whole-room, whole-rooted, needs)

@@ -1,11 +1,14 @@
 -- The walk where a scope opens, LET and the blocks: one law for each place of its code.
 -- Assumes nothing.
 use Prim.Native.Nat.{ℕ, zero, suc, _+_, _-_, _*_, _<_, _≤_}
-use mathlib.Core.Path.{_≡_, refl, sym, ap, _∙_}
+use mathlib.Core.Path.{_≡_, refl, sym, ap, ap₂, _∙_}
 use mathlib.Core.Bool.{Bool, true, false, not}
-use mathlib.Core.List.{List, _∷_, map}
+use mathlib.Core.List.{List, [], _∷_, map}
 use native.Mathlib.Omega.{arith}
-use lib.ListN.{length, set, length-set}
+use lib.ListN.{length, getD, set, length-set}
+use lib.Seq.{set-set, set-getD}
+use types.Run.{OneOf, miss}
+use denote.Enum.Declared.{tagOf}
 use Rattle.class.specs.declared.Info.the-variants.{Fixed}
 use Rattle.cell.specs.Res.{Res, stuck, done}
 use Rattle.catalogue.specs.Tables.{Table, TabRef, tableNamed, tablesFrom}
@@ -16,27 +19,31 @@ use Rattle.view.specs.Parse.{nameOf, namesAt, parseValue}
 use Rattle.view.specs.declared.Fold.{Fold}
 use Rattle.view.specs.declared.Pick.{Pick}
 use Rattle.view.specs.declared.Node.{Node}
-use Rattle.view.specs.declared.Node.the-variants.{Exists, Single, Let}
+use Rattle.view.specs.declared.Node.the-variants.{Const, Binop, Not, If, Exists, Single, Table as TableNode, Select, Col, Classof, Let, Bad}
+use Rattle.view.proofs.Node.{the-type}
 use Rattle.view.proofs.Read as read
 use Rattle.view.proofs.Read.{One, Two, Listed, was-read}
 use Rattle.view.proofs.Says.{exists-few, single-few}
 use Rattle.scope.specs.Scopes.{local}
 use Rattle.scope.specs.Table.{openOf, scopesOf, infosOf}
 use Rattle.scope.specs.Blocks.{Tabs, all, missing, before, foundAt, tablesNamed, refsOf, opened}
+use Rattle.scope.specs.Words.{typeIn}
 use Rattle.scope.specs.Entry.{localScope, openedBy, tablesIn}
 use Rattle.scope.specs.declared.Scope.{Scope}
 use Rattle.scope.specs.declared.Opened.{Opened}
 use Rattle.scope.proofs.Pushes as push
 use Rattle.scope.proofs.Named.{BlockOpened, block-missing, block-opened, names-length}
-use Rattle.resolve.specs.Typed.{typedBy}
-use Rattle.resolve.specs.Steps.{letK, refsTo, existsT, singleT}
-use Rattle.resolve.specs.Claims.{Ready, Opening, answerAt, blockNode}
+use Rattle.resolve.specs.Typed.{knownOf, typedBy}
+use Rattle.resolve.specs.Steps.{letK, letT, refsTo, existsT, singleT}
+use Rattle.resolve.specs.Claims.{Narrow, Ready, Opening, Tabled, answerAt, blockNode, askedOf, countOf}
 use Rattle.resolve.specs.declared.Asked.{Asked}
 use Rattle.resolve.specs.declared.Asked.the-variants as ask
 use Rattle.resolve.specs.declared.Files.{Files}
 use Rattle.resolve.specs.declared.Known.{Known}
 use Rattle.resolve.specs.declared.Typed.{Typed}
 use Rattle.resolve.specs.declared.Typed.the-variants as typed
+use Rattle.resolve.proofs.Inversion.{typed-known}
+use Rattle.resolve.proofs.Narrow.{narrow-push, narrow-entry, narrow-local, narrow-type}
 use Rattle.resolve.proofs.Equations.{thenT, let-step, exists-step, exists-missing, single-step, single-missing}
 use Rattle.resolve.proofs.Tables.{own-exists, own-single}
 use Rattle.resolve.proofs.Turns.{then-is, then-refused, after, child}
@@ -58,6 +65,32 @@ pub single-node : (v : List ℕ) (at a : ℕ) (q : Pick) (nd : Node) → nd ≡ 
 unfolding blockNode
 single-node v at a q nd e g = sym e ∙ g
 
+-- a node of one of a block's two kinds
+pub block-node : (v : List ℕ) (at : ℕ) (nd : Node) (a : Asked) (n : ℕ) → nd ≡ nodeAt v at → OneOf (4 ∷ 5 ∷ []) (tagOf the-type nd) → a ≡ askedOf nd → n ≡ countOf nd → nodeAt v at ≡ blockNode a n
+unfolding blockNode askedOf countOf
+block-node v at nd a n e k h i = sym e ∙ is nd k ∙ sym (ap₂ blockNode h i)
+  where
+    is : (m : Node) → OneOf (4 ∷ 5 ∷ []) (tagOf the-type m) → m ≡ blockNode (askedOf m) (countOf m)
+    is (Exists c q) h = refl
+    is (Single c g) h = refl
+    is (Const t x) h = absurd (miss (4 ∷ 5 ∷ []) 0 tt h)
+    is (Binop op) h = absurd (miss (4 ∷ 5 ∷ []) 1 tt h)
+    is Not h = absurd (miss (4 ∷ 5 ∷ []) 2 tt h)
+    is If h = absurd (miss (4 ∷ 5 ∷ []) 3 tt h)
+    is (TableNode x) h = absurd (miss (4 ∷ 5 ∷ []) 6 tt h)
+    is (Select x y) h = absurd (miss (4 ∷ 5 ∷ []) 7 tt h)
+    is (Col x y) h = absurd (miss (4 ∷ 5 ∷ []) 8 tt h)
+    is (Classof x y) h = absurd (miss (4 ∷ 5 ∷ []) 9 tt h)
+    is (Let x) h = absurd (miss (4 ∷ 5 ∷ []) 10 tt h)
+    is Bad h = absurd (miss (4 ∷ 5 ∷ []) 11 tt h)
+
+-- the table's word at the scope that was opened, put back
+pub closed : (h₀ h₁ : List ℕ) (d w : ℕ) → h₁ ≡ set h₀ d w → set h₁ d (getD h₀ d 0) ≡ h₀
+closed h₀ h₁ d w e = ap (λ (l : List ℕ). set l d (getD h₀ d 0)) e ∙ set-set h₀ d w (getD h₀ d 0) ∙ set-getD h₀ d 0
+
+pub also : {A B C : Type 0} → A × B → C → A × (B × C)
+also p c = (p .0, (p .1, c))
+
 pub let-node : (v : List ℕ) (at name : ℕ) (nd : Node) → nd ≡ nodeAt v at → nd ≡ Let name → nodeAt v at ≡ Let name
 let-node v at name nd e g = sym e ∙ g
 
@@ -72,14 +105,21 @@ missing-first cat v at (suc count) p e = go (tableNamed (nameOf (nodeAt v at)) c
     go (done t) (all ts) h k = absurd (let z : _≡_ {A = ℕ} 0 1 = cc in omega arith)
     go (done t) (missing q) h k = let l = h k in omega arith
 
+let-then : (x : Known) (r : Typed) → letT x r ≡ thenT r (λ y. typed.Is (letK x y))
+unfolding letT thenT
+let-then x (typed.Is y) = refl
+let-then x (typed.Refused i p) = refl
+
 module _ (c ss v : List ℕ) (f : Files) where
   abbrev cat : List Table
   cat = tablesFrom c (f .nc) (f .nc) 0
 
   -- one more scope open
   module _ (t : List Scope) (deep d at : ℕ) (w : Ready c ss v f t deep d at) (s : Scope) (u : List Scope) (e : u ≡ set t deep s) where
-    inner : (m : ℕ) → WasRead (parseValue v (f .n) (d - 1) m) → Ready c ss v f u (deep + 1) (d - 1) m
-    inner m r = child c ss v f t u deep (deep + 1) d at m w (rw e (simp length-set (w .sized))) (omega arith) r
+    inner : (m : ℕ) → WasRead (parseValue v (f .n) (d - 1) m) → Narrow (typeIn s) → Ready c ss v f u (deep + 1) (d - 1) m
+    inner m r h =
+        let l : deep < length t = omega arith in
+        child c ss v f t u deep (deep + 1) d at m w (rw e (simp length-set (w .sized))) (omega arith) r (narrow-push t u deep s e l h (w .narrow))
 
   pub push-room : (t : List Scope) (deep d at : ℕ) → Ready c ss v f t deep d at → deep < 16
   push-room t deep d at w = omega arith
@@ -90,7 +130,7 @@ module _ (c ss v : List ℕ) (f : Files) where
     two-let = read.let-read v (f .n) d at (w .is-read) refl g
 
     pub let-ready : Ready c ss v f t deep (d - 1) (at + 1)
-    let-ready = child c ss v f t t deep deep d at (at + 1) w (w .sized) (omega arith) (was-read (two-let .first))
+    let-ready = child c ss v f t t deep deep d at (at + 1) w (w .sized) (omega arith) (was-read (two-let .first)) (w .narrow)
 
     abbrev bodied : Known → Typed
     bodied x =
@@ -104,10 +144,19 @@ module _ (c ss v : List ℕ) (f : Files) where
     let-refused l a i p b = sym (let-whole ∙ then-refused _ i p _ (sym a ∙ b))
 
     module _ (x : Known) (b : answerAt c v f t deep (d - 1) (at + 1) ≡ typed.Is x) (s : Scope) (u : List Scope) (p : s ≡ localScope name (x .ty) (x .info)) (q : u ≡ set t deep s) where
-      pub body-ready : Ready c ss v f u (deep + 1) (d - 1) (x .next)
-      body-ready = inner t deep d at w s u q (x .next) (rw (after _ _ _ _ _ (two-let .first) b) at (was-read (two-let .second)))
+      body-narrow : Narrow (x .ty)
+      unfolding knownOf
+      body-narrow =
+          let k = typed-known (f .k) cat (scopesOf c (f .nc) t deep) (infosOf t deep) _ (two-let .x) (two-let .mid) x (two-let .first) b in
+          let y : x .ty ≡ k .t = ap (λ (h : Known). h .ty) (k .known) in
+          rw y (narrow-type c (f .nc) v (f .n) t deep (d - 1) (at + 1) (two-let .x) (two-let .mid) (k .x) (k .t) (w .narrow) (two-let .first) (k .resolved))
 
-      body-scopes : scopesOf c (f .nc) u (deep + 1) ≡ local name (x .ty) ∷ scopesOf c (f .nc) t deep
+      pub body-ready : Ready c ss v f u (deep + 1) (d - 1) (x .next)
+      body-ready =
+          inner t deep d at w s u q (x .next) (rw (after _ _ _ _ _ (two-let .first) b) at (was-read (two-let .second)))
+          (narrow-local name (x .ty) (x .info) s p body-narrow)
+
+      pub body-scopes : scopesOf c (f .nc) u (deep + 1) ≡ local name (x .ty) ∷ scopesOf c (f .nc) t deep
       body-scopes = push.local-scopes c (f .nc) t u deep s q (push-room t deep d at w) (w .sized) name (x .ty) (x .info) p
 
       body-infos : infosOf u (deep + 1) ≡ x .info ∷ infosOf t deep
@@ -116,12 +165,8 @@ module _ (c ss v : List ℕ) (f : Files) where
       body-whole : answerAt c v f t deep d at ≡ thenT (answerAt c v f u (deep + 1) (d - 1) (x .next)) (λ y. typed.Is (letK x y))
       body-whole = let-whole ∙ then-is _ x bodied b ∙ rw (← body-scopes, ← body-infos)
 
-      module _ (r : Typed) (h : r ≡ answerAt c v f u (deep + 1) (d - 1) (x .next)) where
-        pub body-refused : (i k : ℕ) → r ≡ typed.Refused i k → typed.Refused i k ≡ answerAt c v f t deep d at
-        body-refused i k j = sym (body-whole ∙ then-refused _ i k _ (sym h ∙ j))
-
-        pub let-done : (y z : Known) → r ≡ typed.Is y → z ≡ letK x y → typed.Is z ≡ answerAt c v f t deep d at
-        let-done y z j m = ap typed.Is m ∙ sym (body-whole ∙ then-is _ y _ (sym h ∙ j))
+      pub let-done : (r s : Typed) → r ≡ answerAt c v f u (deep + 1) (d - 1) (x .next) → s ≡ letT x r → s ≡ answerAt c v f t deep d at
+      let-done r s h m = m ∙ let-then x r ∙ sym (body-whole ∙ ap (λ (z : Typed). thenT z (λ y. typed.Is (letK x y))) (sym h))
 
   -- a block's node
   module _ (t : List Scope) (deep d at : ℕ) (w : Ready c ss v f t deep d at) (asked : Asked) (count : ℕ) (g : nodeAt v at ≡ blockNode asked count) where
@@ -157,10 +202,10 @@ module _ (c ss v : List ℕ) (f : Files) where
     abbrev tabs : Tabs
     tabs = tablesNamed (tablesFrom c (f .nc) (f .nc) 0) (namesAt v (at + 1) count)
 
-    exists-one : (q : Fold) → asked ≡ ask.Rows q → One (parseValue v (f .n) (d - 1)) (at + 1 + count) (parseValue v (f .n) d at) (ast.Exp.exists at q (namesAt v (at + 1) count))
+    pub exists-one : (q : Fold) → asked ≡ ask.Rows q → One (parseValue v (f .n) (d - 1)) (at + 1 + count) (parseValue v (f .n) d at) (ast.Exp.exists at q (namesAt v (at + 1) count))
     exists-one q e = read.exists-read v (f .n) d at (w .is-read) refl (exists-here q e)
 
-    single-two : (q : Pick) → asked ≡ ask.Values q → Two (parseValue v (f .n) (d - 1)) (at + 1 + count) (parseValue v (f .n) d at) (ast.Exp.single at q (namesAt v (at + 1) count))
+    pub single-two : (q : Pick) → asked ≡ ask.Values q → Two (parseValue v (f .n) (d - 1)) (at + 1 + count) (parseValue v (f .n) d at) (ast.Exp.single at q (namesAt v (at + 1) count))
     single-two q e = read.single-read v (f .n) d at (w .is-read) refl (single-here q e)
 
     module _ (o : Opened) (p : o ≡ openedBy ss (tablesNamed (tablesFrom c (f .nc) (f .nc) 0) (namesAt v (at + 1) count))) where
@@ -179,7 +224,7 @@ module _ (c ss v : List ℕ) (f : Files) where
           go (ask.Values q) e = sym (single-missing (f .k) cat _ _ _ at _ (at + 1 + count) _ q (o .place) (single-two q e) gone)
 
       module _ (z : not (o .fine) ≡ false) where
-        there : BlockOpened c (f .nc) (tablesNamed (tablesFrom c (f .nc) (f .nc) 0) (namesAt v (at + 1) count)) (o .scope)
+        pub there : BlockOpened c (f .nc) (tablesNamed (tablesFrom c (f .nc) (f .nc) 0) (namesAt v (at + 1) count)) (o .scope)
         there = block-opened c (f .nc) (f .tables) ss v (at + 1) count o (w .lent .starts) (w .lent .cat-few) (few asked refl) p (not-false (o .fine) z)
 
         pub block-opening : Opening c (f .nc) (o .scope)
@@ -188,11 +233,14 @@ module _ (c ss v : List ℕ) (f : Files) where
             let k = few asked refl .0 in
             record { long = w .lent .cat-long; among = there .among; some = rw (there .counted, h) k }
 
+        pub block-tabled : Tabled c (f .nc) ss (f .tables) v (at + 1) count
+        block-tabled = record { cat-long = w .lent .cat-long; starts = w .lent .starts; view-long = block-room; few = block-few; found = there .found }
+
         module _ (u : List Scope) (q : u ≡ set t deep (o .scope)) where
           pub where-ready : Ready c ss v f u (deep + 1) (d - 1) (at + 1 + count)
-          where-ready = inner t deep d at w (o .scope) u q (at + 1 + count) (where-read asked refl)
+          where-ready = inner t deep d at w (o .scope) u q (at + 1 + count) (where-read asked refl) (narrow-entry (o .scope) (there .untyped))
 
-          block-scopes : scopesOf c (f .nc) u (deep + 1) ≡ opened (refsOf tabs) ∷ scopesOf c (f .nc) t deep
+          pub block-scopes : scopesOf c (f .nc) u (deep + 1) ≡ opened (refsOf tabs) ∷ scopesOf c (f .nc) t deep
           block-scopes = push.block-scopes c (f .nc) t u deep (o .scope) q (push-room t deep d at w) (w .sized) tabs there
 
           block-infos : infosOf u (deep + 1) ≡ Fixed 0 ∷ infosOf t deep
@@ -228,6 +276,7 @@ module _ (c ss v : List ℕ) (f : Files) where
                 value-ready =
                     inner t deep d at w (o .scope) u q (x .next)
                     (rw (after (f .k) cat (scopesOf c (f .nc) u (deep + 1)) (infosOf u (deep + 1)) _ (single-two pick e .first) (sym a ∙ b)) at (was-read (single-two pick e .second)))
+                    (narrow-entry (o .scope) (there .untyped))
 
                 value-whole : answerAt c v f t deep d at ≡ thenT (answerAt c v f u (deep + 1) (d - 1) (x .next)) (singleT at pick (refsOf tabs) x)
                 value-whole = single-whole pick e ∙ then-is _ x _ (sym a ∙ b)

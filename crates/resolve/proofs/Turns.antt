@@ -4,7 +4,7 @@ use Prim.Native.Nat.{ℕ, _+_, _-_, _<_, _≤_}
 use mathlib.Core.Path.{_≡_, sym, ap, _∙_}
 use mathlib.Core.List.{List}
 use native.Mathlib.Omega.{arith}
-use lib.ListN.{length}
+use lib.ListN.{length, getD}
 use Rattle.class.specs.declared.Info.{Info}
 use Rattle.class.specs.declared.Info.the-variants.{Fixed}
 use Rattle.cell.specs.declared.Type.{«Type» as Ty}
@@ -19,12 +19,13 @@ use Rattle.view.specs.declared.Node.the-variants.{Const, Binop, Not, If, Table 
 use Rattle.view.proofs.Read as read
 use Rattle.view.proofs.Read.{Two, Three, here-ok, was-read}
 use Rattle.scope.specs.Scopes.{Open, find}
-use Rattle.scope.specs.Table.{scopesOf, infosOf, foundOf}
+use Rattle.scope.specs.Table.{blank, scopesOf, infosOf, foundOf}
+use Rattle.scope.specs.Words.{typeIn}
 use Rattle.scope.specs.declared.Scope.{Scope}
 use Rattle.scope.specs.declared.Found.{Found}
 use Rattle.resolve.specs.Typed.{knownOf, typedBy}
 use Rattle.resolve.specs.Steps.{leafK, twoT, notT, ifT, colT, classT}
-use Rattle.resolve.specs.Claims.{Ready, answerAt}
+use Rattle.resolve.specs.Claims.{Narrow, Ready, answerAt}
 use Rattle.resolve.specs.declared.Files.{Files}
 use Rattle.resolve.specs.declared.Known.{Known}
 use Rattle.resolve.specs.declared.Typed.{Typed}
@@ -50,10 +51,10 @@ after k cat Γ is P {e} {mid} {x} f g = sym (ap (λ (h : Known). h .next) (typed
 module _ (c ss v : List ℕ) (f : Files) where
   -- a child, in the same scopes or in one more
   pub child : (t u : List Scope) (deep deep2 d at m : ℕ) → Ready c ss v f t deep d at → length u ≡ 16 → deep2 ≤ deep + 1
-      → WasRead (parseValue v (f .n) (d - 1) m) → Ready c ss v f u deep2 (d - 1) m
-  child t u deep deep2 d at m w e l r =
+      → WasRead (parseValue v (f .n) (d - 1) m) → ((j : ℕ) → j < deep2 → Narrow (typeIn (getD u j blank))) → Ready c ss v f u deep2 (d - 1) m
+  child t u deep deep2 d at m w e l r s =
       let h = here-ok v (f .n) (d - 1) m r in
-      record { lent = w .lent; sized = e; not-many = omega arith; is-read = r; here = h .here; left = h .left }
+      record { lent = w .lent; sized = e; not-many = omega arith; is-read = r; here = h .here; left = h .left; narrow = s }
 
   -- a record's number fits 16 bits, and so does the next
   pub here-fits : (t : List Scope) (deep d at : ℕ) → Ready c ss v f t deep d at → at < 65535
@@ -61,7 +62,7 @@ module _ (c ss v : List ℕ) (f : Files) where
 
   module _ (t : List Scope) (deep d at : ℕ) (nd : Node) (w : Ready c ss v f t deep d at) (e : nd ≡ nodeAt v at) where
     same : (m : ℕ) → WasRead (parseValue v (f .n) (d - 1) m) → Ready c ss v f t deep (d - 1) m
-    same m r = child t t deep deep d at m w (w .sized) (omega arith) r
+    same m r = child t t deep deep d at m w (w .sized) (omega arith) r (w .narrow)
 
     pub t-const : (ty : Ty) (x : Value) (r : Known) → nd ≡ Const ty x → r ≡ leafK ty (Fixed (f .k)) (at + 1) → typed.Is r ≡ answerAt c v f t deep d at
     t-const ty x r g h = ap typed.Is h ∙ sym (const-step (f .k) _ _ _ (parseValue v (f .n) (d - 1)) at _ ty x (read.const-read v (f .n) d at (w .is-read) e g))

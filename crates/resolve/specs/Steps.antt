@@ -92,6 +92,11 @@ notT at x = boolT at (x .ty) (typed.Is (notK x))
 unfoldable pub ifT : ℕ → Known → Known → Known → Typed
 ifT at c x y = boolT at (c .ty) (ruledT at (limbType (x .ty) (y .ty)) (λ t. ifK t c (broughtK t x) (broughtK t y)))
 
+-- LET, by what is known of its value and the answer for its body
+unfoldable pub letT : Known → Typed → Typed
+letT x (typed.Is y) = typed.Is (letK x y)
+letT x (typed.Refused number place) = typed.Refused number place
+
 unfoldable pub existsT : ℕ → Fold → List TabRef → Known → Typed
 existsT at f ts x = boolT at (x .ty) (typed.Is (existsK f ts x))
 

@@ -11,7 +11,8 @@ ghost use Rattle.scope.specs.Entry.{tablesIn, Among};
 ghost use Rattle.resolve.specs.Infos.{blockI};
 ghost use Rattle.resolve.specs.Sizes.{weighed, joinsW, joinAllW, choiceW, rowsW};
 ghost use Rattle.resolve.specs.Steps.{classOf, stopped, aggW, refsTo, existsK, singleK, existsT, singleT};
-ghost use Rattle.resolve.specs.Claims.{Opening};
+ghost use Rattle.resolve.specs.Claims.{Opening, askedOf, countOf};
+use crate::Asked;
 use crate::Known;
 use crate::Typed;
 use crate::Weighed;
@@ -23,6 +24,46 @@ use crate::steps::plus;
 use crate::steps::weigh;
 use crate::totals::fold_type;
 use crate::totals::pick_type;
+
+// What is asked of the block that a node is; of a node that is none, a value.
+pub fn asked_of(node: view::Node) -> Asked
+    ensures { λ r. ⌜ r ≡ askedOf node ⌝ }
+{
+    match node {
+        view::Node::Exists(_, q) => Asked::Rows(q),
+        view::Node::Single(_, g) => Asked::Values(g),
+        view::Node::Const(_, _) => Asked::Values(view::Pick::Only),
+        view::Node::Binop(_) => Asked::Values(view::Pick::Only),
+        view::Node::Not => Asked::Values(view::Pick::Only),
+        view::Node::If => Asked::Values(view::Pick::Only),
+        view::Node::Table(_) => Asked::Values(view::Pick::Only),
+        view::Node::Select(_, _) => Asked::Values(view::Pick::Only),
+        view::Node::Col(_, _) => Asked::Values(view::Pick::Only),
+        view::Node::Classof(_, _) => Asked::Values(view::Pick::Only),
+        view::Node::Let(_) => Asked::Values(view::Pick::Only),
+        view::Node::Bad => Asked::Values(view::Pick::Only),
+    }
+}
+
+// How many tables the block has that a node is; a node that is none, 0.
+pub fn count_of(node: view::Node) -> u16
+    ensures { λ r. ⌜ r ≡ countOf node ⌝ }
+{
+    match node {
+        view::Node::Exists(a, _) => a,
+        view::Node::Single(a, _) => a,
+        view::Node::Const(_, _) => 0,
+        view::Node::Binop(_) => 0,
+        view::Node::Not => 0,
+        view::Node::If => 0,
+        view::Node::Table(_) => 0,
+        view::Node::Select(_, _) => 0,
+        view::Node::Col(_, _) => 0,
+        view::Node::Classof(_, _) => 0,
+        view::Node::Let(_) => 0,
+        view::Node::Bad => 0,
+    }
+}
 
 // The row classes of a block's tables, joined in order.
 fn rows(s: scope::Scope, cat: &[u8], n: usize) -> Weighed

@@ -1,6 +1,7 @@
 // Names resolved and types found, in one walk over the records of an accepted view (6 to 9).
-// The definitions are in specs/: Resolve has the rules, Infos and Sizes what is known of a class and of the trees, Typed the walk's answer.
+// The definitions are in specs/: Resolve has the rules, Infos and Sizes what is known of a class and of the trees, Typed the walk's answer, Notes what it notes.
 mod blocks;
+mod notes;
 mod select;
 mod steps;
 mod totals;
@@ -11,8 +12,13 @@ pub use select::whole;
 pub use totals::fold_type;
 ghost use mathlib.Core.Path.{_≡_};
 ghost use Prim.Native.Nat.{_+_, _-_};
+ghost use Rattle.catalogue.specs.Tables.{tablesFrom};
 ghost use Rattle.view.specs.Record.{nodeAt};
+ghost use Rattle.view.specs.Parse.{parseValue};
 ghost use Rattle.view.specs.declared.Node.the-variants.{Let};
+ghost use Rattle.scope.specs.Held.{entriesIn};
+ghost use Rattle.scope.specs.Table.{scopesOf};
+ghost use Rattle.resolve.specs.Notes.{NotedBy, BodyNoted};
 ghost use Rattle.resolve.specs.Claims.{Ready, answerAt, blockNode};
 ghost use Rattle.resolve.specs.declared.Typed.the-variants.{Is};
 
@@ -71,7 +77,7 @@ pub enum Verdict {
     Refused(u16, usize),
 }
 
-// A value: names and types, with depth levels left, in the scopes of t that are open.
+// A value: names and types, with depth levels left, in the scopes that are open, whose entries `held` has as words; and a note for each of its records.
 pub fn value(
     cat: &[u8],
     starts: &[u16; 32],
@@ -79,55 +85,100 @@ pub fn value(
     f: Files,
     at: usize,
     depth: usize,
-    t: [scope::Scope; 16],
+    held: &mut [u64; 16],
     deep: usize,
+    notes: &mut [u64; 1024],
 ) -> Typed
-    requires { ⌜ Ready (now cat) (now starts) (now view) f t deep depth at ⌝ }
-    ensures { λ r. ⌜ r ≡ answerAt (now (cat .entry)) (now (view .entry)) f t deep depth at ⌝ }
+    requires { ⌜ Ready (now cat) (now starts) (now view) f (entriesIn (now held)) deep depth at ⌝ }
+    ensures { λ r. ⌜ r ≡ answerAt (now (cat .entry)) (now (view .entry)) f (entriesIn (now (held .entry))) deep depth at ⌝ }
+    ensures { λ r. ⌜ NotedBy (tablesFrom (now (cat .entry)) (f .nc) (f .nc) 0) (scopesOf (now (cat .entry)) (f .nc) (entriesIn (now (held .entry))) deep) (parseValue (now (view .entry)) (f .n) depth at) at (now (notes .entry)) (now (notes .exit)) ⌝ }
+    ensures { λ r. ⌜ now (held .exit) ≡ now (held .entry) ⌝ }
 {
     let next = at + 1;
     let down = depth - 1;
     let mut r: Typed;
-    match view::sound_at(view, at) {
-        view::Node::Const(ty, _) => Typed::Is(steps::leaf(
-            ty,
-            class::Info::Fixed(f.k),
-            next as u16,
-        )),
+    let node = view::sound_at(view, at);
+    match node {
+        view::Node::Const(ty, _) => {
+            notes::note(notes, at, 0);
+            Typed::Is(steps::leaf(ty, class::Info::Fixed(f.k), next as u16))
+        }
         view::Node::Binop(op) => {
-            r = value(cat, starts, view, f, next, down, t, deep);
+            r = value(cat, starts, view, f, next, down, held, deep, notes);
             match r {
                 Typed::Refused(i, p) => Typed::Refused(i, p),
                 Typed::Is(x) => {
-                    r = value(cat, starts, view, f, x.next as usize, down, t, deep);
+                    r = value(
+                        cat,
+                        starts,
+                        view,
+                        f,
+                        x.next as usize,
+                        down,
+                        held,
+                        deep,
+                        notes,
+                    );
                     match r {
                         Typed::Refused(i, p) => Typed::Refused(i, p),
-                        Typed::Is(y) => steps::with_two(at as u16, op, x, y),
+                        Typed::Is(y) => {
+                            r = steps::with_two(at as u16, op, x, y);
+                            let w = notes::digits_note(r);
+                            notes::note(notes, at, w);
+                            r
+                        }
                     }
                 }
             }
         }
         view::Node::Not => {
-            r = value(cat, starts, view, f, next, down, t, deep);
+            notes::note(notes, at, 0);
+            r = value(cat, starts, view, f, next, down, held, deep, notes);
             match r {
                 Typed::Refused(i, p) => Typed::Refused(i, p),
                 Typed::Is(x) => steps::with_not(at as u16, x),
             }
         }
         view::Node::If => {
-            r = value(cat, starts, view, f, next, down, t, deep);
+            notes::note(notes, at, 0);
+            r = value(cat, starts, view, f, next, down, held, deep, notes);
             match r {
                 Typed::Refused(i, p) => Typed::Refused(i, p),
                 Typed::Is(x) => {
-                    r = value(cat, starts, view, f, x.next as usize, down, t, deep);
+                    r = value(
+                        cat,
+                        starts,
+                        view,
+                        f,
+                        x.next as usize,
+                        down,
+                        held,
+                        deep,
+                        notes,
+                    );
                     match r {
                         Typed::Refused(i, p) => Typed::Refused(i, p),
                         Typed::Is(y) => {
-                            r = value(cat, starts, view, f, y.next as usize, down, t, deep);
+                            r = value(
+                                cat,
+                                starts,
+                                view,
+                                f,
+                                y.next as usize,
+                                down,
+                                held,
+                                deep,
+                                notes,
+                            );
                             match r {
                                 Typed::Refused(i, p) => Typed::Refused(i, p),
                                 Typed::Is(z) => {
                                     r = steps::with_if(at as u16, x, y, z);
+                                    let yes = y.ty;
+                                    let no = z.ty;
+                                    let i = x.next as usize;
+                                    let j = y.next as usize;
+                                    notes::limbs(notes, i, yes, j, no, r);
                                     r
                                 }
                             }
@@ -136,50 +187,24 @@ pub fn value(
                 }
             }
         }
-        view::Node::Exists(a, q) => {
-            r = block(
-                cat,
-                starts,
-                view,
-                f,
-                at,
-                depth,
-                t,
-                deep,
-                a as usize,
-                Asked::Rows(q),
-            );
-            r
+        view::Node::Col(name, q) => {
+            let h = scope::find_in(held, cat, f.nc, deep, name, q);
+            let w = notes::found_note(h);
+            notes::note(notes, at, w);
+            steps::of_column(at as u16, h)
         }
-        view::Node::Single(a, g) => {
-            r = block(
-                cat,
-                starts,
-                view,
-                f,
-                at,
-                depth,
-                t,
-                deep,
-                a as usize,
-                Asked::Values(g),
-            );
-            r
+        view::Node::Classof(name, q) => {
+            let h = scope::find_in(held, cat, f.nc, deep, name, q);
+            let w = notes::found_note(h);
+            notes::note(notes, at, w);
+            steps::of_class(at as u16, h)
         }
-        view::Node::Col(name, q) => steps::of_column(
-            at as u16,
-            scope::find(t, cat, f.nc, deep, name, q),
-        ),
-        view::Node::Classof(name, q) => steps::of_class(
-            at as u16,
-            scope::find(t, cat, f.nc, deep, name, q),
-        ),
         view::Node::Let(name) => {
-            r = value(cat, starts, view, f, next, down, t, deep);
+            r = value(cat, starts, view, f, next, down, held, deep, notes);
             match r {
                 Typed::Refused(i, p) => Typed::Refused(i, p),
                 Typed::Is(x) => {
-                    r = bound(cat, starts, view, f, at, depth, t, deep, name, x);
+                    r = bound(cat, starts, view, f, at, depth, held, deep, name, x, notes);
                     r
                 }
             }
@@ -187,10 +212,28 @@ pub fn value(
         view::Node::Table(_) => Typed::Refused(4, at as u16),
         view::Node::Select(_, _) => Typed::Refused(4, at as u16),
         view::Node::Bad => Typed::Refused(3, at as u16),
+        view::Node::Exists(_, _) | view::Node::Single(_, _) => {
+            let asked = blocks::asked_of(node);
+            let count = blocks::count_of(node) as usize;
+            r = block(
+                cat,
+                starts,
+                view,
+                f,
+                at,
+                depth,
+                held,
+                deep,
+                count,
+                asked,
+                notes,
+            );
+            r
+        }
     }
 }
 
-// The body of the LET at a record, of whose value x is known: a scope opens for it. A body that is a LET again is taken here, so that a chain of them takes one frame each.
+// The body of the LET at a record, of whose value x is known and noted: a scope opens for it, and is closed again.
 fn bound(
     cat: &[u8],
     starts: &[u16; 32],
@@ -198,38 +241,31 @@ fn bound(
     f: Files,
     at: usize,
     depth: usize,
-    t: [scope::Scope; 16],
+    held: &mut [u64; 16],
     deep: usize,
     name: u16,
     x: Known,
+    notes: &mut [u64; 1024],
 ) -> Typed
-    requires { ⌜ Ready (now cat) (now starts) (now view) f t deep depth at × (nodeAt (now view) at ≡ Let name) × (answerAt (now cat) (now view) f t deep (depth - 1) (at + 1) ≡ Is x) ⌝ }
-    ensures { λ r. ⌜ r ≡ answerAt (now (cat .entry)) (now (view .entry)) f t deep depth at ⌝ }
+    requires { ⌜ Ready (now cat) (now starts) (now view) f (entriesIn (now held)) deep depth at × (nodeAt (now view) at ≡ Let name) × (answerAt (now cat) (now view) f (entriesIn (now held)) deep (depth - 1) (at + 1) ≡ Is x) ⌝ }
+    ensures { λ r. ⌜ r ≡ answerAt (now (cat .entry)) (now (view .entry)) f (entriesIn (now (held .entry))) deep depth at ⌝ }
+    ensures { λ r. ⌜ BodyNoted (tablesFrom (now (cat .entry)) (f .nc) (f .nc) 0) (scopesOf (now (cat .entry)) (f .nc) (entriesIn (now (held .entry))) deep) (parseValue (now (view .entry)) (f .n) (depth - 1) (at + 1)) (parseValue (now (view .entry)) (f .n) depth at) at (now (notes .entry)) (now (notes .exit)) ⌝ }
+    ensures { λ r. ⌜ now (held .exit) ≡ now (held .entry) ⌝ }
 {
     let down = depth - 1;
+    notes::note(notes, at, 0);
     let ty = x.ty;
     let info = x.info;
     let own = scope::local_scope(name, ty, info);
-    let u = scope::pushed(t, deep, own);
+    let old = held[deep];
+    scope::push_in(held, deep, own);
     let body = x.next as usize;
-    let mut r: Typed;
-    match view::node_at(view, body) {
-        view::Node::Let(inner) => {
-            r = value(cat, starts, view, f, body + 1, down - 1, u, deep + 1);
-            match r {
-                Typed::Refused(i, p) => return Typed::Refused(i, p),
-                Typed::Is(z) => r = bound(cat, starts, view, f, body, down, u, deep + 1, inner, z),
-            }
-        }
-        _ => r = value(cat, starts, view, f, body, down, u, deep + 1),
-    }
-    match r {
-        Typed::Refused(i, p) => Typed::Refused(i, p),
-        Typed::Is(y) => Typed::Is(steps::with_let(x, y)),
-    }
+    let r = value(cat, starts, view, f, body, down, held, deep + 1, notes);
+    held[deep] = old;
+    steps::with_body(x, r)
 }
 
-// A block of whose rows or values something is asked: a scope opens over its tables, for its where and its value.
+// A block of whose rows or values something is asked: a scope opens over its tables, for its where and its value, and is closed again.
 fn block(
     cat: &[u8],
     starts: &[u16; 32],
@@ -237,13 +273,16 @@ fn block(
     f: Files,
     at: usize,
     depth: usize,
-    t: [scope::Scope; 16],
+    held: &mut [u64; 16],
     deep: usize,
     count: usize,
     asked: Asked,
+    notes: &mut [u64; 1024],
 ) -> Typed
-    requires { ⌜ Ready (now cat) (now starts) (now view) f t deep depth at × (nodeAt (now view) at ≡ blockNode asked count) ⌝ }
-    ensures { λ r. ⌜ r ≡ answerAt (now (cat .entry)) (now (view .entry)) f t deep depth at ⌝ }
+    requires { ⌜ Ready (now cat) (now starts) (now view) f (entriesIn (now held)) deep depth at × (nodeAt (now view) at ≡ blockNode asked count) ⌝ }
+    ensures { λ r. ⌜ r ≡ answerAt (now (cat .entry)) (now (view .entry)) f (entriesIn (now (held .entry))) deep depth at ⌝ }
+    ensures { λ r. ⌜ NotedBy (tablesFrom (now (cat .entry)) (f .nc) (f .nc) 0) (scopesOf (now (cat .entry)) (f .nc) (entriesIn (now (held .entry))) deep) (parseValue (now (view .entry)) (f .n) depth at) at (now (notes .entry)) (now (notes .exit)) ⌝ }
+    ensures { λ r. ⌜ now (held .exit) ≡ now (held .entry) ⌝ }
 {
     let next = at + 1;
     let down = depth - 1;
@@ -251,15 +290,36 @@ fn block(
     if !o.fine {
         return Typed::Refused(6, o.place as u16);
     }
+    notes::note(notes, at, 0);
+    notes::tables(cat, f.nc, starts, f.tables, view, next, count, notes);
     let s = o.scope;
-    let u = scope::pushed(t, deep, s);
-    let mut r = value(cat, starts, view, f, next + count, down, u, deep + 1);
+    let old = held[deep];
+    scope::push_in(held, deep, s);
+    let mut r = value(
+        cat,
+        starts,
+        view,
+        f,
+        next + count,
+        down,
+        held,
+        deep + 1,
+        notes,
+    );
     match r {
-        Typed::Refused(i, p) => Typed::Refused(i, p),
+        Typed::Refused(i, p) => {
+            held[deep] = old;
+            Typed::Refused(i, p)
+        }
         Typed::Is(x) => match asked {
-            Asked::Rows(q) => blocks::with_exists(s, cat, f.nc, at as u16, q, x),
+            Asked::Rows(q) => {
+                held[deep] = old;
+                blocks::with_exists(s, cat, f.nc, at as u16, q, x)
+            }
             Asked::Values(g) => {
-                r = value(cat, starts, view, f, x.next as usize, down, u, deep + 1);
+                let then = x.next as usize;
+                r = value(cat, starts, view, f, then, down, held, deep + 1, notes);
+                held[deep] = old;
                 match r {
                     Typed::Refused(i, p) => Typed::Refused(i, p),
                     Typed::Is(y) => blocks::with_single(s, cat, f.nc, at as u16, g, x, y),

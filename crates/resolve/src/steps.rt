@@ -3,7 +3,7 @@
 ghost use mathlib.Core.Path.{_≡_};
 ghost use Prim.Native.Nat.{ℕ, _+_, _<_};
 ghost use Rattle.resolve.specs.Sizes.{capped, sizedI, bindSize, weighed, joinW, choiceW, letW};
-ghost use Rattle.resolve.specs.Steps.{classOf, stopped, knownBy, leafK, twoK, notK, broughtK, ifK, letK, twoT, notT, ifT, colT, classT};
+ghost use Rattle.resolve.specs.Steps.{classOf, stopped, knownBy, leafK, twoK, notK, broughtK, ifK, letK, twoT, notT, ifT, letT, colT, classT};
 use crate::Known;
 use crate::Typed;
 use crate::Weighed;
@@ -181,13 +181,23 @@ pub fn with_if(at: u16, c: Known, x: Known, y: Known) -> Typed
     }
 }
 
-// LET.
-pub fn with_let(x: Known, y: Known) -> Known
+// LET, of whose value x is known.
+fn with_let(x: Known, y: Known) -> Known
     ensures { λ r. ⌜ r ≡ letK x y ⌝ }
 {
     let t = y.ty;
     let values = plus(1, plus(x.values, y.values));
     made(t, y.next, values, bound(x.values, class_of(x), class_of(y)))
+}
+
+// LET, by the answer for its body.
+pub fn with_body(x: Known, r: Typed) -> Typed
+    ensures { λ s. ⌜ s ≡ letT x r ⌝ }
+{
+    match r {
+        Typed::Is(y) => Typed::Is(with_let(x, y)),
+        Typed::Refused(i, p) => Typed::Refused(i, p),
+    }
 }
 
 // COL.

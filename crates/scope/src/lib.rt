@@ -1,6 +1,7 @@
 // The open scopes in a small table, one entry for each block and each LET body: push an entry, and find a name.
 // The definitions are in specs/: Scopes has the rule of names, Table what an entry says, Blocks a block's tables.
 mod entry;
+mod held;
 mod lent;
 mod words;
 
@@ -10,6 +11,9 @@ pub use entry::open_block;
 pub use entry::row_info;
 pub use entry::table_class_at;
 pub use entry::table_number;
+pub use held::find_in;
+pub use held::push_in;
+pub use held::words_of;
 pub use lent::look_up;
 pub use lent::push;
 pub use words::count_in;

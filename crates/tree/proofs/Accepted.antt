@@ -36,15 +36,16 @@ use Rattle.resolve.specs.Expr.{Expr}
 use Rattle.resolve.specs.Expr as expr
 use Rattle.resolve.specs.Totals.{foldType}
 use Rattle.resolve.specs.Resolve.{good, brought, resolve}
-use Rattle.resolve.specs.Claims.{Ready, blockNode}
+use Rattle.resolve.specs.Claims.{Ready, blockNode, Narrow, Tabled}
 use Rattle.resolve.specs.declared.Asked.{Asked}
 use Rattle.resolve.specs.declared.Asked.the-variants as ask
 use Rattle.resolve.specs.declared.Files.{Files}
 use Rattle.resolve.proofs.Inversion.{ColGood, ClassGood, pick-same, const-good, bin-good, neg-good, if-good, exists-good, single-good, let-good, col-good, classof-good}
 use Rattle.resolve.proofs.Turns.{child}
-use Rattle.tree.specs.Claims.{outAt, exprAt, typeAt, infoAt, nextAt, Narrow, Accepted, refsAt, Tabled}
+use Rattle.resolve.proofs.Narrow.{narrow-entry, narrow-push}
+use Rattle.tree.specs.Claims.{outAt, exprAt, typeAt, infoAt, nextAt, Accepted, refsAt}
 use Rattle.tree.proofs.Resolved.{out-is, expr-is, type-is}
-use Rattle.tree.proofs.Narrow.{narrow-null, narrow-push, narrow-type}
+use Rattle.tree.proofs.Narrow.{narrow-type}
 
 -- a value that was read and resolved is accepted, and this is its expression and its type
 pub record Is (c ss v : List ℕ) (f : Files) (t : List Scope) (deep d at : ℕ) (x : Expr) (s : Ty) : Type 0 where
@@ -52,14 +53,14 @@ pub record Is (c ss v : List ℕ) (f : Files) (t : List Scope) (deep d at : ℕ)
   pub expr-as : exprAt c v f t deep d at ≡ x
   pub type-as : typeAt c v f t deep d at ≡ s
 
-pub accept : (c ss v : List ℕ) (f : Files) (t : List Scope) (deep d at : ℕ) → Ready c ss v f t deep d at → ((j : ℕ) → j < deep → Narrow (typeIn (getD t j blank)))
+pub accept : (c ss v : List ℕ) (f : Files) (t : List Scope) (deep d at : ℕ) → Ready c ss v f t deep d at
     → {e : Exp} {k : ℕ} → parseValue v (f .n) d at ≡ ok e k → {x : Expr} {s : Ty}
     → resolve (tablesFrom c (f .nc) (f .nc) 0) (scopesOf c (f .nc) t deep) e ≡ good x s → Is c ss v f t deep d at x s
-accept c ss v f t deep d at r n h {x} {s} g =
+accept c ss v f t deep d at r h {x} {s} g =
     let o : outAt c v f t deep d at ≡ good x s = out-is c v f t deep d at h ∙ g in
     let p = expr-is c v f t deep d at o in
     let q = type-is c v f t deep d at o in
-    record { accepted = record { ready = r; resolved = o ∙ sym (ap₂ good p q); narrow = n }; expr-as = p; type-as = q }
+    record { accepted = record { ready = r; resolved = o ∙ sym (ap₂ good p q) }; expr-as = p; type-as = q }
 
 -- ---- the parts, by kind
 
@@ -133,7 +134,7 @@ module _ (c ss v : List ℕ) (f : Files) (t : List Scope) (deep d at : ℕ) (w :
   -- a part in the same scopes, and one in a scope more
   same : (m : ℕ) {e : Exp} {k : ℕ} {x : Expr} {s : Ty} → parseValue v (f .n) (d - 1) m ≡ ok e k
       → resolve (tablesFrom c (f .nc) (f .nc) 0) (scopesOf c (f .nc) t deep) e ≡ good x s → Is c ss v f t deep (d - 1) m x s
-  same m h g = accept c ss v f t deep (d - 1) m (child c ss v f t t deep deep d at m (w .ready) (w .ready .sized) (omega arith) (was-read h)) (w .narrow) h g
+  same m h g = accept c ss v f t deep (d - 1) m (child c ss v f t t deep deep d at m (w .ready) (w .ready .sized) (omega arith) (was-read h) (w .ready .narrow)) h g
 
   inner : (m : ℕ) (u : List Scope) (s : Scope) → u ≡ set t deep s → Narrow (typeIn s) → (Γ : List Open) → scopesOf c (f .nc) u (deep + 1) ≡ Γ
       → {e : Exp} {k : ℕ} {x : Expr} {r : Ty} → parseValue v (f .n) (d - 1) m ≡ ok e k
@@ -141,8 +142,7 @@ module _ (c ss v : List ℕ) (f : Files) (t : List Scope) (deep d at : ℕ) (w :
   inner m u s p n Γ q {e} h g =
       let l : deep < length t = (let y = w .ready .left in let z = w .ready .not-many in omega (arith, w .ready .sized)) in
       accept c ss v f u (deep + 1) (d - 1) m
-      (child c ss v f t u deep (deep + 1) d at m (w .ready) (push-long c (f .nc) t u deep s p (w .ready .sized)) (omega arith) (was-read h))
-      (narrow-push t u deep s p l n (w .narrow))
+      (child c ss v f t u deep (deep + 1) d at m (w .ready) (push-long c (f .nc) t u deep s p (w .ready .sized)) (omega arith) (was-read h) (narrow-push t u deep s p l n (w .ready .narrow)))
       h (ap (λ (Δ : List Open). resolve (tablesFrom c (f .nc) (f .nc) 0) Δ e) q ∙ g)
 
   module _ (nd : Node) (e : nd ≡ nodeAt v at) where
@@ -277,11 +277,12 @@ module _ (c ss v : List ℕ) (f : Files) (t : List Scope) (deep d at : ℕ) (w :
         let k = found-fine ss _ ts o p h in
         let l : deep < 16 = omega (arith, w .ready .left, w .ready .not-many) in
         let b = block-opened c (f .nc) (f .tables) ss v (at + 1) count o (w .ready .lent .starts) (w .ready .lent .cat-few) (few asked refl) p k in
-        inner m u (o .scope) q (subst Narrow (sym (b .untyped)) narrow-null) _
+        inner m u (o .scope) q (narrow-entry (o .scope) (b .untyped)) _
         (block-scopes c (f .nc) t u deep (o .scope) q l (w .ready .sized) _ b ∙ ap (λ (z : Tabs). opened (refsOf z) ∷ scopesOf c (f .nc) t deep) h) i j
 
     made : (ts : List TabRef) → tablesNamed (tablesFrom c (f .nc) (f .nc) 0) (namesAt v (at + 1) count) ≡ all ts → Accepted c ss v f u (deep + 1) (d - 1) (at + 1 + count)
         → BlockIs c ss v f t u deep d at count (o .scope)
+    unfolding refsAt
     made ts h a =
         let k = found-fine ss _ ts o p h in
         let l : deep < 16 = omega (arith, w .ready .left, w .ready .not-many) in

@@ -35,7 +35,7 @@ use Rattle.scope.proofs.Named.{names-length, number-again}
 use Rattle.scope.specs.declared.Scope.{Scope}
 use Rattle.scope.specs.declared.Found.{Found}
 use Rattle.scope.specs.declared.Found.the-variants as F
-use Rattle.resolve.specs.Claims.{answerAt, blockNode}
+use Rattle.resolve.specs.Claims.{answerAt, blockNode, Tabled}
 use Rattle.resolve.specs.declared.Asked.{Asked}
 use Rattle.resolve.specs.declared.Asked.the-variants as ask
 use Rattle.resolve.specs.declared.Files.{Files}
@@ -44,7 +44,7 @@ use Rattle.resolve.specs.declared.Typed.{Typed}
 use Rattle.resolve.specs.declared.Typed.the-variants as typed
 use Rattle.tree.specs.Tree.{Tree, CONST, BINOP, NOT, IF, EXISTS, VALUE, DATA, CELLCLASS, ROWCLASS, LOCAL, LOCALCLASS, CONV, BIND, BINDC, LUB, DOM, AGG, size, encode, tableRecs, foldKind, foldOp, pickKind}
 use Rattle.tree.specs.Trans.{nums}
-use Rattle.tree.specs.Claims.{typeAt, Accepted, refsAt, Tabled, IsConst, constTree, colTree, classTree, foundType, foundInfo, rowInfo, convBytes, blockKind, blockOp}
+use Rattle.tree.specs.Claims.{typeAt, Accepted, refsAt, IsConst, constTree, colTree, classTree, foundType, foundInfo, rowInfo, convBytes, blockKind, blockOp}
 use Rattle.tree.proofs.Sizes.{length-encode}
 use Rattle.tree.proofs.Writing.{room-as}
 use Rattle.tree.proofs.Answers.{not-refused, known-is}
@@ -57,8 +57,6 @@ module _ (c ss v : List ℕ) (f : Files) (t : List Scope) (deep d at : ℕ) (w :
 
   pub type-refused : {i p : ℕ} → l ≡ typed.Refused i p → T.Null ≡ typeAt c v f t deep d at
   type-refused b = absurd (not-refused c ss v f t deep d at w l a b)
-
-pub ruleset lookups = (type-done, type-refused, needs)
 
 -- ---- types, by what is found
 
@@ -311,11 +309,12 @@ left-begin c n v at count o to r = record { few = omega arith; room = r; todo = 
 module _ (c : List ℕ) (n : ℕ) (ss : List ℕ) (tables : ℕ) (v : List ℕ) (at count : ℕ) where
   module _ (w : Tabled c n ss tables v at count) where
     refs-long : length (refsAt c n v at count) ≡ count
+    unfolding refsAt
     refs-long = names-length _ v at count (refsAt c n v at count) (w .found)
 
     next-rec : (j k : ℕ) → j < count → (tableNamed (nameOf (nodeAt v (at + j))) (tablesFrom c n n 0) ≡ refBy c n ss tables k) × (k ≤ tables)
         → tableRecs (nums (drop j (refsAt c n v at count))) ≡ recBytes 12 0 k 0 0 ++ tableRecs (nums (drop (j + 1) (refsAt c n v at count)))
-    unfolding tableRecs
+    unfolding refsAt tableRecs
     next-rec j k h e =
         let p = part (refsAt c n v at count) j (omega (arith, refs-long)) in
         let q = number-again c n tables ss v at count (refsAt c n v at count) (p .0) j (at + j) k (w .found) h (p .1) refl e in

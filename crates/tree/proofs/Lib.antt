@@ -1,8 +1,7 @@
--- The laws of trees: what is known of a class, sizes, what an accepted value tells of its parts and they of it, the places of the writers, and the prefix order read back.
+-- The laws of trees: what is known of a class, sizes, what an accepted value tells of its parts and they of it, the places of the writers, the data from notes, and the prefix order read back.
 -- Assumes nothing.
 pub mod Infos
 pub mod Sizes
-pub mod Kept
 pub mod Resolved
 pub mod Narrow
 pub mod Accepted
@@ -11,4 +10,8 @@ pub mod Answers
 pub mod Writing
 pub mod Leaves
 pub mod Turns
+pub mod Reach
+pub mod Gives
+pub mod Notes
+pub mod Noting
 pub mod Prefix

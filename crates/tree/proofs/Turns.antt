@@ -33,13 +33,13 @@ use Rattle.scope.specs.declared.Found.{Found}
 use Rattle.resolve.specs.Totals.{foldType}
 use Rattle.resolve.specs.Infos.{blockI}
 use Rattle.resolve.specs.Steps.{refsTo}
-use Rattle.resolve.specs.Claims.{Opening, blockNode}
+use Rattle.resolve.specs.Claims.{Opening, blockNode, Narrow, Tabled}
 use Rattle.resolve.specs.declared.Asked.{Asked}
 use Rattle.resolve.specs.declared.Asked.the-variants as ask
 use Rattle.resolve.specs.declared.Files.{Files}
 use Rattle.tree.specs.Tree.{encode, tableRecs}
 use Rattle.tree.specs.Trans.{nums}
-use Rattle.tree.specs.Claims.{typeAt, infoAt, dataAt, limbAt, nextAt, Narrow, Accepted, refsAt, Tabled, IsConst, constTree, colTree, classTree, foundType, foundInfo, rowInfo, convBytes, blockKind, blockOp}
+use Rattle.tree.specs.Claims.{typeAt, infoAt, dataAt, limbAt, nextAt, Accepted, refsAt, IsConst, constTree, colTree, classTree, foundType, foundInfo, rowInfo, convBytes, blockKind, blockOp}
 use Rattle.tree.specs.declared.Pos.{Pos}
 use Rattle.tree.proofs.Narrow.{narrow-type}
 use Rattle.tree.proofs.Accepted.{LetIs, ExistsIs, SingleIs, const-is, const-type, col-is, classof-is, not-is, binop-is, if-is, let-is, block-is, exists-is, single-is}

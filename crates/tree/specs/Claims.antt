@@ -1,10 +1,9 @@
 -- The resolved value at a record of a view, as total functions of the bytes, and what the writers of its trees require of their caller.
 -- Assumes nothing.
-use Prim.Native.Nat.{ℕ, _+_, _*_, _<_, _≤_}
+use Prim.Native.Nat.{ℕ, _+_, _*_}
 use mathlib.Core.Path.{_≡_}
 use mathlib.Core.Bool.{cond}
 use mathlib.Core.List.{List, []}
-use lib.ListN.{length, getD}
 use Rattle.word.specs.Record.{recBytes}
 use Rattle.class.specs.declared.Info.{Info}
 use Rattle.class.specs.declared.Info.the-variants.{Fixed}
@@ -14,15 +13,13 @@ use Rattle.cell.specs.declared.Type.the-variants as T
 use Rattle.cell.specs.declared.Value.{Value}
 use Rattle.cell.specs.declared.Value.the-variants as X
 use Rattle.catalogue.specs.Tables.{TabRef, tablesFrom}
-use Rattle.catalogue.specs.Starts.{StartsAre}
 use Rattle.view.specs.Ast.{Exp, Parsed, ok, refused, nextOf}
 use Rattle.view.specs.Ast as ast
 use Rattle.view.specs.Parse.{namesAt, parseValue}
 use Rattle.view.specs.declared.Node.{Node}
 use Rattle.view.specs.declared.Node.the-variants.{Const, Binop, Not, If, Exists, Single, Table, Select, Col, Classof, Let, Bad}
-use Rattle.scope.specs.Words.{typeIn}
-use Rattle.scope.specs.Table.{blank, scopesOf, infosOf}
-use Rattle.scope.specs.Blocks.{all, tablesNamed, refsOf}
+use Rattle.scope.specs.Table.{scopesOf, infosOf}
+use Rattle.scope.specs.Blocks.{tablesNamed, refsOf}
 use Rattle.scope.specs.declared.Scope.{Scope}
 use Rattle.scope.specs.declared.Found.{Found}
 use Rattle.scope.specs.declared.Found.the-variants as F
@@ -76,28 +73,14 @@ limbAt c v f t deep d at r = D (brought (typeAt c v f t deep d at) r (exprAt c v
 unfoldable pub nextAt : List ℕ → Files → ℕ → ℕ → ℕ
 nextAt v f d at = nextOf (parseValue v (f .n) d at)
 
--- p and s of a fixed type are below 16, so that 16p+s is a byte
-pub record Narrow (t : Ty) : Type 0 where
-  pub digits : digitsOf t < 16
-  pub scale : scaleOf t < 16
-
--- AN ACCEPTED VALUE: it was read and the numbers are right (Ready), and its names and types keep their rules; the open locals' types are narrow
+-- AN ACCEPTED VALUE: it was read and the numbers are right (Ready), and its names and types keep their rules
 pub record Accepted (c ss v : List ℕ) (f : Files) (t : List Scope) (deep d at : ℕ) : Type 0 where
   pub ready : Ready c ss v f t deep d at
   pub resolved : outAt c v f t deep d at ≡ good (exprAt c v f t deep d at) (typeAt c v f t deep d at)
-  pub narrow : (j : ℕ) → j < deep → Narrow (typeIn (getD t j blank))
 
 -- the tables that so many TABLE records name, from record `at` on, over n records of a catalogue
 unfoldable pub refsAt : List ℕ → ℕ → List ℕ → ℕ → ℕ → List TabRef
 refsAt c n v at count = refsOf (tablesNamed (tablesFrom c n n 0) (namesAt v at count))
-
--- TABLE records whose tables are all in the catalogue
-pub record Tabled (c : List ℕ) (n : ℕ) (ss : List ℕ) (tables : ℕ) (v : List ℕ) (at count : ℕ) : Type 0 where
-  pub cat-long : 8 + 8 * n ≤ length c
-  pub starts : StartsAre c n tables ss
-  pub view-long : 8 + 8 * (at + count) ≤ length v
-  pub few : count ≤ 4
-  pub found : tablesNamed (tablesFrom c n n 0) (namesAt v at count) ≡ all (refsAt c n v at count)
 
 -- a constant's node, and its tree
 pub record IsConst (nd : Node) : Type 0 where

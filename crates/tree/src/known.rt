@@ -16,11 +16,13 @@ pub fn type_at(
     depth: usize,
     t: [scope::Scope; 16],
     deep: usize,
+    pad: &mut [u64; 1024],
 ) -> cell::Type
     requires { ⌜ Accepted (now cat) (now starts) (now view) f t deep depth at ⌝ }
     ensures { λ r. ⌜ r ≡ typeAt (now (cat .entry)) (now (view .entry)) f t deep depth at ⌝ }
 {
-    match resolve::value(cat, starts, view, f, at, depth, t, deep) {
+    let mut held = scope::words_of(t);
+    match resolve::value(cat, starts, view, f, at, depth, &mut held, deep, pad) {
         resolve::Typed::Is(x) => {
             let ty = x.ty;
             ty

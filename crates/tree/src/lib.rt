@@ -1,16 +1,18 @@
 // The data tree of an accepted view's values, written in prefix order: a record, then its children.
 // The definitions are in specs/: Tree has trees and their records, Trans the data tree D and the class C, Select the whole tree, Claims the value at a record.
 mod known;
+mod noted;
 mod records;
 
+pub use noted::write_noted;
 pub use records::table_recs;
 ghost use mathlib.Core.Path.{_≡_};
 ghost use Prim.Native.Nat.{_+_};
 ghost use Rattle.word.specs.Buffer.{Wrote, Room};
 ghost use Rattle.view.specs.Record.{nodeAt};
-ghost use Rattle.resolve.specs.Claims.{blockNode};
+ghost use Rattle.resolve.specs.Claims.{Narrow, blockNode};
 ghost use Rattle.tree.specs.Tree.{encode};
-ghost use Rattle.tree.specs.Claims.{typeAt, infoAt, dataAt, limbAt, nextAt, Narrow, Accepted};
+ghost use Rattle.tree.specs.Claims.{typeAt, infoAt, dataAt, limbAt, nextAt, Accepted};
 
 // Where a writer stands after a value: the next record of the view, and the place in the buffer; and the value's type, and what is known of its class.
 pub struct Pos {
@@ -21,6 +23,7 @@ pub struct Pos {
 }
 
 // The data tree of the value at a record, with depth levels left, in the scopes of t that are open.
+// The pad is scratch for the walk of names and types; what it holds afterwards isn't said.
 pub fn write_d(
     cat: &[u8],
     starts: &[u16; 32],
@@ -32,6 +35,7 @@ pub fn write_d(
     deep: usize,
     out: &mut [u8],
     to: usize,
+    pad: &mut [u64; 1024],
 ) -> Pos
     requires { ⌜ Accepted (now cat) (now starts) (now view) f t deep depth at ⌝ }
     requires { ⌜ Room (now out) to (encode (dataAt (now cat) (now view) f t deep depth at)) ⌝ }
@@ -53,8 +57,8 @@ pub fn write_d(
             }
         }
         view::Node::Binop(op) => {
-            let x = write_d(cat, starts, view, f, next, down, t, deep, out, to + 8);
-            let y = write_d(cat, starts, view, f, x.next, down, t, deep, out, x.to);
+            let x = write_d(cat, starts, view, f, next, down, t, deep, out, to + 8, pad);
+            let y = write_d(cat, starts, view, f, x.next, down, t, deep, out, x.to, pad);
             let r = x.ty;
             let s = y.ty;
             let i = x.info;
@@ -72,7 +76,7 @@ pub fn write_d(
         }
         view::Node::Not => {
             let a = word::put_rec(out, to, 8, 0, 0, 0, 0);
-            let x = write_d(cat, starts, view, f, next, down, t, deep, out, a);
+            let x = write_d(cat, starts, view, f, next, down, t, deep, out, a, pad);
             let ty = x.ty;
             let info = x.info;
             Pos {
@@ -83,11 +87,37 @@ pub fn write_d(
             }
         }
         view::Node::If => {
-            let ty = known::type_at(cat, starts, view, f, at, depth, t, deep);
+            let ty = known::type_at(cat, starts, view, f, at, depth, t, deep, pad);
             let a = word::put_rec(out, to, 9, 0, 0, 0, 0);
-            let x = write_d(cat, starts, view, f, next, down, t, deep, out, a);
-            let y = write_limb(cat, starts, view, f, x.next, down, t, deep, ty, out, x.to);
-            let z = write_limb(cat, starts, view, f, y.next, down, t, deep, ty, out, y.to);
+            let x = write_d(cat, starts, view, f, next, down, t, deep, out, a, pad);
+            let y = write_limb(
+                cat,
+                starts,
+                view,
+                f,
+                x.next,
+                down,
+                t,
+                deep,
+                ty,
+                out,
+                x.to,
+                pad,
+            );
+            let z = write_limb(
+                cat,
+                starts,
+                view,
+                f,
+                y.next,
+                down,
+                t,
+                deep,
+                ty,
+                out,
+                y.to,
+                pad,
+            );
             let i = x.info;
             let j = y.info;
             let k = z.info;
@@ -114,6 +144,7 @@ pub fn write_d(
                 resolve::Asked::Rows(q),
                 out,
                 to,
+                pad,
             );
             let ty = x.ty;
             let info = x.info;
@@ -138,6 +169,7 @@ pub fn write_d(
                 resolve::Asked::Values(g),
                 out,
                 to,
+                pad,
             );
             let ty = x.ty;
             let info = x.info;
@@ -173,12 +205,24 @@ pub fn write_d(
         }
         view::Node::Let(name) => {
             let a = word::put_rec(out, to, 23, 0, 0, 0, 0);
-            let x = write_d(cat, starts, view, f, next, down, t, deep, out, a);
+            let x = write_d(cat, starts, view, f, next, down, t, deep, out, a, pad);
             let r = x.ty;
             let i = x.info;
             let s = scope::local_scope(name, r, i);
             let u = scope::pushed(t, deep, s);
-            let y = write_d(cat, starts, view, f, x.next, down, u, deep + 1, out, x.to);
+            let y = write_d(
+                cat,
+                starts,
+                view,
+                f,
+                x.next,
+                down,
+                u,
+                deep + 1,
+                out,
+                x.to,
+                pad,
+            );
             let ty = y.ty;
             let info = y.info;
             Pos {
@@ -222,6 +266,7 @@ fn write_limb(
     ty: cell::Type,
     out: &mut [u8],
     to: usize,
+    pad: &mut [u64; 1024],
 ) -> Pos
     requires { ⌜ Accepted (now cat) (now starts) (now view) f t deep depth at ⌝ }
     requires { ⌜ Narrow ty ⌝ }
@@ -231,9 +276,9 @@ fn write_limb(
     ensures { λ r. ⌜ r .ty ≡ typeAt (now (cat .entry)) (now (view .entry)) f t deep depth at ⌝ }
     ensures { λ r. ⌜ r .info ≡ infoAt (now (cat .entry)) (now (view .entry)) f t deep depth at ⌝ }
 {
-    let own = known::type_at(cat, starts, view, f, at, depth, t, deep);
+    let own = known::type_at(cat, starts, view, f, at, depth, t, deep, pad);
     let a = records::put_conv(own, ty, out, to);
-    write_d(cat, starts, view, f, at, depth, t, deep, out, a)
+    write_d(cat, starts, view, f, at, depth, t, deep, out, a, pad)
 }
 
 // A block of whose rows or values something is asked: the tables' numbers, then the where and the value in the block's scope.
@@ -250,6 +295,7 @@ fn write_block(
     asked: resolve::Asked,
     out: &mut [u8],
     to: usize,
+    pad: &mut [u64; 1024],
 ) -> Pos
     requires { ⌜ Accepted (now cat) (now starts) (now view) f t deep depth at × (nodeAt (now view) at ≡ blockNode asked count) ⌝ }
     requires { ⌜ Room (now out) to (encode (dataAt (now cat) (now view) f t deep depth at)) ⌝ }
@@ -278,6 +324,7 @@ fn write_block(
         deep + 1,
         out,
         b,
+        pad,
     );
     match asked {
         resolve::Asked::Rows(q) => {
@@ -292,7 +339,19 @@ fn write_block(
             }
         }
         resolve::Asked::Values(_) => {
-            let y = write_d(cat, starts, view, f, x.next, down, u, deep + 1, out, x.to);
+            let y = write_d(
+                cat,
+                starts,
+                view,
+                f,
+                x.next,
+                down,
+                u,
+                deep + 1,
+                out,
+                x.to,
+                pad,
+            );
             let ty = y.ty;
             let i = x.info;
             let j = y.info;

@@ -5,9 +5,10 @@ ghost use Prim.Native.Nat.{_+_, _*_, _≤_, _<_};
 ghost use lib.ListN.{length};
 ghost use Rattle.word.specs.Buffer.{Wrote, Room};
 ghost use Rattle.view.specs.Record.{nodeAt};
+ghost use Rattle.resolve.specs.Claims.{Narrow, Tabled};
 ghost use Rattle.tree.specs.Tree.{encode, tableRecs, foldKind, foldOp, pickKind};
 ghost use Rattle.tree.specs.Trans.{nums};
-ghost use Rattle.tree.specs.Claims.{Narrow, refsAt, Tabled, IsConst, constTree, colTree, classTree, convBytes, blockKind, blockOp};
+ghost use Rattle.tree.specs.Claims.{refsAt, IsConst, constTree, colTree, classTree, convBytes, blockKind, blockOp};
 
 // The constant at a record of a view: its record again.
 pub fn copy_const(view: &[u8], at: usize, out: &mut [u8], to: usize) -> usize

@@ -59,10 +59,6 @@ pub to-refused : {A : Type 0} {P : Parsed A} {k p : ℕ} → P ≡ refused k p �
 unfolding walkOf
 to-refused e = rw e
 
-pub to-next : {A : Type 0} {P : Parsed A} {a : A} {k : ℕ} → P ≡ ok a k → W.Next k ≡ walkOf P
-unfolding walkOf
-to-next e = rw e
-
 -- what an answer ok tells of the parts
 pub cond-refused : {A : Type 0} (b : Bool) (i j : ℕ) {P : Parsed A} {k : ℕ} {a : A} → cond b P (refused i j) ≡ ok a k → (b ≡ true) × (P ≡ ok a k)
 cond-refused true i j e = (refl, e)

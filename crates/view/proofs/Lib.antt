@@ -2,6 +2,7 @@
 -- Assumes nothing.
 pub mod Children
 pub mod Constants
+pub mod Forms
 pub mod Induction
 pub mod Laws
 pub mod Made

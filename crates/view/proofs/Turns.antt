@@ -1,22 +1,21 @@
 -- One law for each place of the walk: its premises are what the code has found there, its conclusion is what is asked there. For `search turns`.
 -- Assumes nothing.
 use Prim.Native.Nat.{ℕ, _+_, _-_, _*_, _<_, _≤_}
-use mathlib.Core.Path.{_≡_, sym, ap, _∙_}
-use mathlib.Core.Bool.{Bool, true, false, _&&_}
+use mathlib.Core.Path.{_≡_, refl, sym, ap, _∙_}
+use mathlib.Core.Bool.{Bool, true, false, cond, _&&_}
 use mathlib.Core.List.{List}
 use native.Mathlib.Omega.{arith}
 use lib.ListN.{length}
-use lib.Dec.{eqb}
+use lib.Dec.{eqb, leb}
 use borrow.Author.Needs.{needs}
-use borrow.Author.Tests.{eq-eqb, ne-eqb, lt-ltb, le-ltb, eqb-true}
+use borrow.Author.Tests.{eq-eqb, ne-eqb, lt-ltb, le-ltb, le-leb, leb-true, leb-false, eqb-true}
 use Rattle.word.specs.Bytes.{within}
 use Rattle.word.specs.Header.{drq, headed, countAt}
 use Rattle.word.proofs.Laws.{headed-long}
 use Rattle.cell.specs.declared.Type.{«Type» as Ty}
 use Rattle.cell.specs.declared.Value.{Value}
 use Rattle.view.specs.Ast.{Exp, Parsed, andThen, ok}
-use Rattle.view.specs.Ast as ast
-use Rattle.view.specs.Record.{nodeAt, slotOf}
+use Rattle.view.specs.Record.{nodeAt, slotOf, formOf}
 use Rattle.view.specs.Parse.{enterNode, enter, many, parseTable, parseBlock, parseNode, parseValue, parseRoot, parseView, metOf, walkOf, verdictOf, checkOf}
 use Rattle.view.specs.declared.Node.{Node}
 use Rattle.view.specs.declared.Fold.{Fold}
@@ -27,7 +26,9 @@ use Rattle.view.specs.declared.Met.the-variants as M
 use Rattle.view.specs.declared.Walk.{Walk}
 use Rattle.view.specs.declared.Walk.the-variants as W
 use Rattle.view.specs.declared.Verdict.the-variants as Out
-use Rattle.view.proofs.Laws.{and-right, walk-next, walk-refused, met-refused, to-refused, to-next, enter-found, value-refused, value-deep, value-node, walk-map, one-walk, two-walk, three-walk, many-turn, many-stop, many-end, tables-refused, where-refused, where-next, root-refused, root-block-refused, root-end, root-more, root-other}
+use Rattle.view.proofs.Laws.{above, and-left, and-right, walk-next, walk-refused, met-refused, to-refused, enter-found, value-refused, value-deep, value-node, many-turn, many-stop, many-end, tables-refused, where-refused, where-next, root-refused, root-block-refused, root-end, root-more, root-other}
+use Rattle.view.proofs.Says.{exists-few}
+use Rattle.view.proofs.Forms.{slot-by, far, leaf-walk, some-walk, exists-walk, single-walk}
 
 -- enter
 module _ (v : List ℕ) (n slot at : ℕ) where
@@ -95,75 +96,58 @@ pub value-early : (v : List ℕ) (n d at : ℕ) → n ≤ at → W.Refused 4 n �
 unfolding enter
 value-early v n d at h = to-refused (value-refused v n d at (let e = le-ltb at n h in rw e))
 
-module _ (v : List ℕ) (n d at : ℕ) {nd : Node} {s : ℕ} (h : at < n) (e : nd ≡ nodeAt v at) (f : s ≡ slotOf nd) where
-  pub value-nowhere : s ≡ 0 → W.Refused 3 at ≡ walkOf (parseValue v n d at)
+-- a form that is none of the small ones is a block's
+pub value-far : (v : List ℕ) (at : ℕ) {f : ℕ} → f ≡ formOf (nodeAt v at) → within 5 6 f ≡ false → (f ≡ 4 → ⊥) → 4 ≤ f → 16 ≤ f
+value-far v at {f} e o c l =
+    let h = above 4 f l c in
+    let g : leb f 6 ≡ false = rw (le-leb 5 f h) at o in
+    let k : 7 ≤ f = leb-false f 6 g in
+    rw e (far (nodeAt v at) (rw e at k))
+
+module _ (v : List ℕ) (n d at : ℕ) {f : ℕ} (h : at < n) (e : f ≡ formOf (nodeAt v at)) where
+  by-form : slotOf (nodeAt v at) ≡ cond (eqb f 0) 0 (cond (within 5 6 f) (f - 3) 1)
+  by-form = rw e (slot-by (nodeAt v at))
+
+  pub value-nowhere : f ≡ 0 → W.Refused 3 at ≡ walkOf (parseValue v n d at)
   unfolding enter enterNode
-  value-nowhere z = to-refused (value-refused v n d at (rw (lt-ltb at n h, ← e, ← f, eq-eqb s 0 z)))
+  value-nowhere z = to-refused (value-refused v n d at (rw (lt-ltb at n h, by-form, z)))
 
-  pub value-elsewhere : (s ≡ 0 → ⊥) → (s ≡ 1 → ⊥) → W.Refused 4 at ≡ walkOf (parseValue v n d at)
-  unfolding enter enterNode
-  value-elsewhere z g = to-refused (value-refused v n d at (rw (lt-ltb at n h, ← e, ← f, ne-eqb s 0 z, ne-eqb s 1 g)))
+  module _ (u : f ≡ 0 → ⊥) where
+    pub value-elsewhere : within 5 6 f ≡ true → W.Refused 4 at ≡ walkOf (parseValue v n d at)
+    unfolding enter enterNode
+    value-elsewhere o =
+        let l = leb-true 5 f (and-left (leb 5 f) (leb f 6) o) in
+        let z : f - 3 ≡ 0 → ⊥ = λ i. omega arith in
+        let g : f - 3 ≡ 1 → ⊥ = λ i. omega arith in
+        to-refused (value-refused v n d at (rw (lt-ltb at n h, by-form, ne-eqb f 0 u, o, ne-eqb (f - 3) 0 z, ne-eqb (f - 3) 1 g)))
 
-  entered : s ≡ 1 → enter v n 1 at ≡ ok nd (at + 1)
-  unfolding enter enterNode
-  entered g = let z : s ≡ 0 → ⊥ = λ i. omega arith in rw (lt-ltb at n h, ← e, ← f, ne-eqb s 0 z, eq-eqb s 1 g)
+    module _ (o : within 5 6 f ≡ false) where
+      entered : enter v n 1 at ≡ ok (nodeAt v at) (at + 1)
+      unfolding enter enterNode
+      entered = rw (lt-ltb at n h, by-form, ne-eqb f 0 u, o)
 
-  pub value-too-deep : s ≡ 1 → d ≡ 0 → W.Refused 5 at ≡ walkOf (parseValue v n d at)
-  value-too-deep g z = to-refused (value-deep v n d at z (entered g))
+      pub value-too-deep : d ≡ 0 → W.Refused 5 at ≡ walkOf (parseValue v n d at)
+      value-too-deep z = to-refused (value-deep v n d at z entered)
 
-  module _ (i : s ≡ 1) (z : d ≡ 0 → ⊥) where
-    found : {md : Node} → nd ≡ md → parseValue v n d at ≡ parseNode v n (d - 1) (parseValue v n (d - 1)) at md
-    found g = value-node v n d at z (rw g at (entered i))
+      module _ (z : d ≡ 0 → ⊥) where
+        found : parseValue v n d at ≡ parseNode v n (d - 1) (parseValue v n (d - 1)) at (nodeAt v at)
+        found = value-node v n d at z entered
 
-    -- m is the number of the next record
-    module _ {m : ℕ} (j : m ≡ at + 1) where
-      pub value-const : {t : Ty} {x : Value} → nd ≡ Const t x → W.Next m ≡ walkOf (parseValue v n d at)
-      unfolding parseNode
-      value-const g = ap W.Next j ∙ to-next (found g)
+        -- m is the number of the next record
+        module _ {m : ℕ} (j : m ≡ at + 1) where
+          pub value-leaf : f ≡ 4 → W.Next m ≡ walkOf (parseValue v n d at)
+          value-leaf g = rw (j, found) (leaf-walk v n (d - 1) (parseValue v n (d - 1)) at (nodeAt v at) (sym e ∙ g))
 
-      pub value-col : {name q : ℕ} → nd ≡ Col name q → W.Next m ≡ walkOf (parseValue v n d at)
-      unfolding parseNode
-      value-col g = ap W.Next j ∙ to-next (found g)
+          pub value-some : {w : Walk} → f < 4 → w ≡ walkOf (many (parseValue v n (d - 1)) f m) → w ≡ walkOf (parseValue v n d at)
+          value-some l g = g ∙ sym (rw (j, e, found) (some-walk v n (d - 1) (parseValue v n (d - 1)) at (nodeAt v at) (rw e at u) (rw e at l)))
 
-      pub value-classof : {name q : ℕ} → nd ≡ Classof name q → W.Next m ≡ walkOf (parseValue v n d at)
-      unfolding parseNode
-      value-classof g = ap W.Next j ∙ to-next (found g)
+          pub value-exists : {w : Walk} → (f ≡ 4 → ⊥) → 4 ≤ f → f < 32
+              → w ≡ walkOf (parseBlock v n (d - 1) (parseValue v n (d - 1)) (f - 16) 0 m) → w ≡ walkOf (parseValue v n d at)
+          value-exists c k l g = g ∙ sym (rw (j, e, found) (exists-walk v n (d - 1) (parseValue v n (d - 1)) at (nodeAt v at) (rw e at (value-far v at e o c k)) (rw e at l)))
 
-      pub value-binop : {op : ℕ} {w : Walk} → nd ≡ Binop op → w ≡ walkOf (many (parseValue v n (d - 1)) 2 m) → w ≡ walkOf (parseValue v n d at)
-      unfolding parseNode
-      value-binop {op} g h = (rw j at h) ∙ sym (ap walkOf (found g) ∙ two-walk (parseValue v n (d - 1)) (at + 1) (ast.Exp.binop at op))
-
-      pub value-neg : {w : Walk} → nd ≡ Not → w ≡ walkOf (many (parseValue v n (d - 1)) 1 m) → w ≡ walkOf (parseValue v n d at)
-      unfolding parseNode
-      value-neg g h = (rw j at h) ∙ sym (ap walkOf (found g) ∙ one-walk (parseValue v n (d - 1)) (at + 1) (ast.Exp.neg at))
-
-      pub value-if : {w : Walk} → nd ≡ If → w ≡ walkOf (many (parseValue v n (d - 1)) 3 m) → w ≡ walkOf (parseValue v n d at)
-      unfolding parseNode
-      value-if g h = (rw j at h) ∙ sym (ap walkOf (found g) ∙ three-walk (parseValue v n (d - 1)) (at + 1) (ast.Exp.if at))
-
-      pub value-let : {name : ℕ} {w : Walk} → nd ≡ Let name → w ≡ walkOf (many (parseValue v n (d - 1)) 2 m) → w ≡ walkOf (parseValue v n d at)
-      unfolding parseNode
-      value-let {name} g h = (rw j at h) ∙ sym (ap walkOf (found g) ∙ two-walk (parseValue v n (d - 1)) (at + 1) (ast.Exp.letin at name))
-
-      pub value-exists : {a : ℕ} {w : Walk} {q : Fold} → nd ≡ Exists a q → w ≡ walkOf (parseBlock v n (d - 1) (parseValue v n (d - 1)) a 0 m) → w ≡ walkOf (parseValue v n d at)
-      unfolding parseNode
-      value-exists {a} g h = (rw j at h) ∙ sym (ap walkOf (found g) ∙ walk-map (parseBlock v n (d - 1) (parseValue v n (d - 1)) a 0 (at + 1)) _)
-
-      pub value-single : {a : ℕ} {w : Walk} {q : Pick} → nd ≡ Single a q → w ≡ walkOf (parseBlock v n (d - 1) (parseValue v n (d - 1)) a 1 m) → w ≡ walkOf (parseValue v n d at)
-      unfolding parseNode
-      value-single {a} g h = (rw j at h) ∙ sym (ap walkOf (found g) ∙ walk-map (parseBlock v n (d - 1) (parseValue v n (d - 1)) a 1 (at + 1)) _)
-
-    pub value-table : {a : ℕ} → nd ≡ Table a → W.Refused 4 at ≡ walkOf (parseValue v n d at)
-    unfolding parseNode
-    value-table g = to-refused (found g)
-
-    pub value-select : {a b : ℕ} → nd ≡ Select a b → W.Refused 4 at ≡ walkOf (parseValue v n d at)
-    unfolding parseNode
-    value-select g = to-refused (found g)
-
-    pub value-bad : nd ≡ Bad → W.Refused 3 at ≡ walkOf (parseValue v n d at)
-    unfolding parseNode
-    value-bad g = to-refused (found g)
+          pub value-single : {w : Walk} → 32 ≤ f
+              → w ≡ walkOf (parseBlock v n (d - 1) (parseValue v n (d - 1)) (f - 32) 1 m) → w ≡ walkOf (parseValue v n d at)
+          value-single l g = g ∙ sym (rw (j, e, found) (single-walk v n (d - 1) (parseValue v n (d - 1)) at (nodeAt v at) (λ a q i. exists-few v at refl i .1) (rw e at l)))
 
 -- block
 module _ (v : List ℕ) (n d : ℕ) (p : ℕ → Parsed Exp) (nt nv at : ℕ) {x : Walk} (e : x ≡ walkOf (many (parseTable v n d) nt at)) where
@@ -177,7 +161,7 @@ module _ (v : List ℕ) (n d : ℕ) (p : ℕ → Parsed Exp) (nt nv at : ℕ) {x
     pub block-values : {l : ℕ} {w : Walk} → y ≡ W.Next l → w ≡ walkOf (many p nv l) → w ≡ walkOf (parseBlock v n d p nt nv at)
     block-values h i = i ∙ sym (where-next v n d p nt nv at (walk-next _ e f .1) (walk-next _ g h .1))
 
-pub ruleset turns = (again-is, value-early, value-nowhere, value-elsewhere, value-too-deep, value-const, value-col, value-classof, value-binop, value-neg, value-if, value-let, value-exists, value-single, value-table, value-select, value-bad, block-not, block-where-not, block-values, stands, needs)
+pub ruleset turns = (again-is, value-early, value-nowhere, value-elsewhere, value-too-deep, value-far, value-leaf, value-some, value-exists, value-single, block-not, block-where-not, block-values, needs)
 
 -- root
 module _ (v : List ℕ) (n : ℕ) {r : Met} (e : r ≡ metOf (enter v n 3 0)) where

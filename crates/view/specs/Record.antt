@@ -93,6 +93,22 @@ slotOf (Classof name q) = 1
 slotOf (Let name) = 1
 slotOf Bad = 0
 
+-- the form of a node, what follows it as one number: 0 a bad node; so many values: 1 NOT, 2 BINOP and LET, 3 IF;
+-- 4 nothing: the constants, COL and CLASSOF; 5 TABLE; 6 SELECT; 16 + a: EXISTS and COUNT over a tables; 32 + a: VALUE, MAX and MIN over a tables
+unfoldable pub formOf : Node → ℕ
+formOf (Const t v) = 4
+formOf (Binop op) = 2
+formOf Not = 1
+formOf If = 3
+formOf (Exists a f) = 16 + a
+formOf (Single a g) = 32 + a
+formOf (Table name) = 5
+formOf (Select a b) = 6
+formOf (Col name q) = 4
+formOf (Classof name q) = 4
+formOf (Let name) = 2
+formOf Bad = 0
+
 -- a record of these fields
 abbrev pub rec : ℕ → ℕ → ℕ → ℕ → ℕ → Rec
 rec k o x y z = record { kind = k; op = o; a = x; b = y; c = z }

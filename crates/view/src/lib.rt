@@ -3,14 +3,14 @@
 mod reader;
 
 ghost use mathlib.Core.Path.{_≡_};
-ghost use mathlib.Core.Bool.{_&&_};
+ghost use mathlib.Core.Bool.{cond, _&&_};
 ghost use Prim.Native.Nat.{_+_, _*_, _^_, _≤_, _<_};
 ghost use lib.ListN.{length};
 ghost use lib.IntN.{natAbs};
 ghost use Rattle.word.specs.Bytes.{signed32, within};
 ghost use Rattle.cell.specs.Types.{digitsRule};
 ghost use Rattle.cell.specs.Values.{digits};
-ghost use Rattle.view.specs.Record.{rec, when, bare, opOnly, aOnly, counts, constOf, nodeOf, nodeAt, slotOf};
+ghost use Rattle.view.specs.Record.{rec, when, bare, opOnly, aOnly, counts, constOf, nodeOf, nodeAt, slotOf, formOf};
 ghost use Rattle.view.specs.Parse.{enter, many, parseTable, parseBlock, parseValue, parseRoot, metOf, walkOf, checkOf};
 
 // What a block without a value says of its kept rows: whether there is one (EXISTS), or how many, in so many digits (COUNT).
@@ -329,6 +329,61 @@ fn slot_of(node: Node) -> u8
     }
 }
 
+// The form, where a record's fields keep their rule.
+fn form_when(kept: bool, form: u16) -> u16
+    ensures { λ r. ⌜ r ≡ cond kept form 0 ⌝ }
+{
+    if kept { form } else { 0 }
+}
+
+// The form of a block over a tables, if they are 1 to 4.
+fn form_over(base: u16, a: u16) -> u16
+    requires { ⌜ base ≤ 32 ⌝ }
+    ensures { λ r. ⌜ r ≡ cond (within 1 4 a) (base + a) 0 ⌝ }
+{
+    if inside(1, 4, a) { base + a } else { 0 }
+}
+
+// The form of a record of kind 1 to 6, by its fields.
+fn form_const(kind: u8, op: u8, a: u16, b: u16, c: u16) -> u16
+    ensures { λ o. ⌜ o ≡ formOf (constOf (rec kind op a b c)) ⌝ }
+{
+    let slot = slot_of(const_of(kind, op, a, b, c));
+    if slot == 0 { 0 } else { 4 }
+}
+
+// The form of a record, by its fields: but for a constant no node is made.
+fn form_of(kind: u8, op: u8, a: u16, b: u16, c: u16) -> u16
+    ensures { λ o. ⌜ o ≡ formOf (nodeOf (rec kind op a b c)) ⌝ }
+{
+    let plain = (op == 0) & (c == 0);
+    match kind {
+        1..=6 => form_const(kind, op, a, b, c),
+        7 => form_when(((1 <= op) & (op <= 12)) & op_only(a, b, c), 2),
+        8 => form_when(bare(op, a, b, c), 1),
+        9 => form_when(bare(op, a, b, c), 3),
+        10 => form_when(a_only(op, b, c), form_over(16, a)),
+        11 => form_when(a_only(op, b, c), form_over(32, a)),
+        12 => form_when((1 <= a) & a_only(op, b, c), 5),
+        13 => form_when((inside(1, 4, a) & inside(1, 32, b)) & plain, 6),
+        14 => form_when((1 <= a) & plain, 4),
+        15 => form_when((1 <= a) & plain, 4),
+        16 => form_when((1 <= a) & a_only(op, b, c), 2),
+        28 => form_when(counts(op, b, c), form_over(16, a)),
+        29 => form_when(a_only(op, b, c), form_over(32, a)),
+        30 => form_when(a_only(op, b, c), form_over(32, a)),
+        _ => 0,
+    }
+}
+
+// The form of record i of a view.
+fn form_at(view: &[u8], i: usize) -> u16
+    requires { ⌜ 8 + 8 * i + 8 ≤ length (now view) ⌝ }
+    ensures { λ r. ⌜ r ≡ formOf (nodeAt (now (view .entry)) i) ⌝ }
+{
+    reader::form(reader::make(view, i))
+}
+
 // The node at a record, if it may stand in this slot.
 fn enter(view: &[u8], n: usize, slot: u8, at: usize) -> Met
     requires { ⌜ 8 + 8 * n ≤ length (now view) ⌝ }
@@ -397,7 +452,7 @@ fn again(w: Walk) -> Walk
     }
 }
 
-// A value, with depth levels left.
+// A value, with depth levels left: what follows its record goes by the record's form.
 fn value(view: &[u8], n: usize, at: usize, depth: usize) -> Walk
     requires { ⌜ 8 + 8 * n ≤ length (now view) ⌝ }
     ensures { λ r. ⌜ r ≡ walkOf (parseValue (now (view .entry)) n depth at) ⌝ }
@@ -405,12 +460,11 @@ fn value(view: &[u8], n: usize, at: usize, depth: usize) -> Walk
     if n <= at {
         return Walk::Refused(4, n);
     }
-    let node = node_at(view, at);
-    let s = slot_of(node);
-    if s == 0 {
+    let form = form_at(view, at);
+    if form == 0 {
         return Walk::Refused(3, at);
     }
-    if s != 1 {
+    if (5 <= form) & (form <= 6) {
         return Walk::Refused(4, at);
     }
     if depth == 0 {
@@ -418,20 +472,16 @@ fn value(view: &[u8], n: usize, at: usize, depth: usize) -> Walk
     }
     let next = place_after(view, at);
     let down = depth - 1;
-    match node {
-        Node::Const(_, _) => Walk::Next(next),
-        Node::Binop(_) => again(values(view, n, next, 2, down)),
-        Node::Not => again(values(view, n, next, 1, down)),
-        Node::If => again(values(view, n, next, 3, down)),
-        Node::Exists(tables, _) => again(block(view, n, next, tables, 0, down)),
-        Node::Single(tables, _) => again(block(view, n, next, tables, 1, down)),
-        Node::Table(_) => Walk::Refused(4, at),
-        Node::Select(_, _) => Walk::Refused(4, at),
-        Node::Col(_, _) => Walk::Next(next),
-        Node::Classof(_, _) => Walk::Next(next),
-        Node::Let(_) => again(values(view, n, next, 2, down)),
-        Node::Bad => Walk::Refused(3, at),
+    if form == 4 {
+        return Walk::Next(next);
     }
+    if form < 4 {
+        return again(values(view, n, next, form, down));
+    }
+    if form < 32 {
+        return again(block(view, n, next, form - 16, 0, down));
+    }
+    again(block(view, n, next, form - 32, 1, down))
 }
 
 // So many values.

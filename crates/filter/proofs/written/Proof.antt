@@ -18,7 +18,7 @@ written-spec =
     -- cast-write-tree
     (λ c. search needs)
     -- write-tree-requires
-    (λ c κs. search (count-is, has-room, needs))
+    (λ c κs. (search needs, (search needs, (search (count-is, needs), search (has-room, needs)))))
     -- acceptance-requires
     (λ c κs. search needs)
     -- refusal-requires

@@ -28,6 +28,8 @@ of-view-spec =
     (λ c. search needs)
     -- starts-requires
     (λ c κs. search takes)
+    -- slice-aggregate-whole
+    (λ c. search needs)
     -- whole-requires
     (λ c κs. search may-resolve)
     -- enum-known-number-3

@@ -48,36 +48,36 @@ use Rattle.word.proofs.put_rec.Reads as put-rec-reads
 use Rattle.tree.proofs.+write_block+write_d+write_limb.{statement}
 use Rattle.tree.proofs.+write_block+write_d+write_limb.Tie.{close}
 
-abbrev μ-write-block : Measures 4 write-block-kinds.ps ℕ
+abbrev μ-write-block : Measures 5 write-block-kinds.ps ℕ
 μ-write-block κs a = 3 * a .1 .1 .1 .1 .1 .0
 
-abbrev μ-write-d : Measures 4 write-d-kinds.ps ℕ
+abbrev μ-write-d : Measures 5 write-d-kinds.ps ℕ
 μ-write-d κs a = 3 * a .1 .1 .1 .1 .1 .0 + 1
 
-abbrev μ-write-limb : Measures 4 write-limb-kinds.ps ℕ
+abbrev μ-write-limb : Measures 5 write-limb-kinds.ps ℕ
 μ-write-limb κs a = 3 * a .1 .1 .1 .1 .1 .0 + 2
 
-abbrev write-block-at : ℕ → In 4 write-block-kinds.ps
+abbrev write-block-at : ℕ → In 5 write-block-kinds.ps
 write-block-at t =
-    and 4 write-block-kinds.ps (is 4 write-block-kinds.ps μ-write-block t) write-block.Pre
+    and 5 write-block-kinds.ps (is 5 write-block-kinds.ps μ-write-block t) write-block.Pre
 
-abbrev write-block-below : ℕ → In 4 write-block-kinds.ps
+abbrev write-block-below : ℕ → In 5 write-block-kinds.ps
 write-block-below t =
-    and 4 write-block-kinds.ps (falls 4 write-block-kinds.ps _<_ μ-write-block t) write-block.Pre
+    and 5 write-block-kinds.ps (falls 5 write-block-kinds.ps _<_ μ-write-block t) write-block.Pre
 
-abbrev write-d-at : ℕ → In 4 write-d-kinds.ps
-write-d-at t = and 4 write-d-kinds.ps (is 4 write-d-kinds.ps μ-write-d t) write-d.Pre
+abbrev write-d-at : ℕ → In 5 write-d-kinds.ps
+write-d-at t = and 5 write-d-kinds.ps (is 5 write-d-kinds.ps μ-write-d t) write-d.Pre
 
-abbrev write-d-below : ℕ → In 4 write-d-kinds.ps
-write-d-below t = and 4 write-d-kinds.ps (falls 4 write-d-kinds.ps _<_ μ-write-d t) write-d.Pre
+abbrev write-d-below : ℕ → In 5 write-d-kinds.ps
+write-d-below t = and 5 write-d-kinds.ps (falls 5 write-d-kinds.ps _<_ μ-write-d t) write-d.Pre
 
-abbrev write-limb-at : ℕ → In 4 write-limb-kinds.ps
+abbrev write-limb-at : ℕ → In 5 write-limb-kinds.ps
 write-limb-at t =
-    and 4 write-limb-kinds.ps (is 4 write-limb-kinds.ps μ-write-limb t) write-limb.Pre
+    and 5 write-limb-kinds.ps (is 5 write-limb-kinds.ps μ-write-limb t) write-limb.Pre
 
-abbrev write-limb-below : ℕ → In 4 write-limb-kinds.ps
+abbrev write-limb-below : ℕ → In 5 write-limb-kinds.ps
 write-limb-below t =
-    and 4 write-limb-kinds.ps (falls 4 write-limb-kinds.ps _<_ μ-write-limb t) write-limb.Pre
+    and 5 write-limb-kinds.ps (falls 5 write-limb-kinds.ps _<_ μ-write-limb t) write-limb.Pre
 
 pub +write-block+write-d+write-limb-spec : {M : Type 1} → statement M
 +write-block+write-d+write-limb-spec =
@@ -128,29 +128,29 @@ pub +write-block+write-d+write-limb-spec : {M : Type 1} → statement M
     -- add-write-d-2
     (λ c. let h = push-room _ _ _ _ _ _ _ _ (c .before .before .before .before .before .before .before .before .before .before .before .before .before .before .before .before .pre .1 .0 .0 .ready) in omega arith)
     -- write-d-requires
-    (λ c κs. (omega (arith, c .before .before .before .before .before .before .before .before .before .before .before .before .before .before .before .before .before .pre .0, c .before .before .before .before .before .before .before .before .before .before .before .before .before .before .before .before .before .pre .1 .0 .0 .ready .left), where-asks _ _ _ _ _ _ _ _ (c .before .before .before .before .before .before .before .before .before .before .before .before .before .before .before .before .before .pre .1 .0 .0) (c .before .before .before .before .before .before .before .before .before .before .before .before .before .before .before .before .before .pre .1 .1) _ _ (c .before .before .before .before .before .before .before .before .before .before .before .before .before .before .before .before .before .pre .1 .0 .1) _ (c .before .before .before .before .before .before .before .before .before .before .before .before .before .open-block .ensures) _ (c .before .before .before .before .before .before .before .before .before .before .before .pushed .ensures) _ _ (c .before .before .before .before .before .before .before .before .before .before .block-kind .ensures) (c .before .before .before .before .before .before .before .before .before .block-op .ensures) (c .before .before .before .before .before .before .before .put-rec .ensures) (c .before .before .before .table-recs .ensures)))
+    (λ c κs. (omega (arith, c .before .before .before .before .before .before .before .before .before .before .before .before .before .before .before .before .before .before .pre .0, c .before .before .before .before .before .before .before .before .before .before .before .before .before .before .before .before .before .before .pre .1 .0 .0 .ready .left), where-asks _ _ _ _ _ _ _ _ (c .before .before .before .before .before .before .before .before .before .before .before .before .before .before .before .before .before .before .pre .1 .0 .0) (c .before .before .before .before .before .before .before .before .before .before .before .before .before .before .before .before .before .before .pre .1 .1) _ _ (c .before .before .before .before .before .before .before .before .before .before .before .before .before .before .before .before .before .before .pre .1 .0 .1) _ (c .before .before .before .before .before .before .before .before .before .before .before .before .before .before .open-block .ensures) _ (c .before .before .before .before .before .before .before .before .before .before .before .before .pushed .ensures) _ _ (c .before .before .before .before .before .before .before .before .before .before .before .block-kind .ensures) (c .before .before .before .before .before .before .before .before .before .before .block-op .ensures) (c .before .before .before .before .before .before .before .before .put-rec .ensures) (c .before .before .before .before .table-recs .ensures)))
     -- enum-known-asked
     (λ c. search needs)
     -- fold-type-requires
     (λ c κs. search needs)
     -- exists-info-requires
-    (λ c κs. block-asks _ _ _ _ _ _ _ _ (c .before .before .before .before .before .before .before .before .before .before .before .before .before .before .before .before .before .before .before .before .before .before .before .before .pre .1 .0 .0) (c .before .before .before .before .before .before .before .before .before .before .before .before .before .before .before .before .before .before .before .before .before .before .before .before .pre .1 .1) _ _ (c .before .before .before .before .before .before .before .before .before .before .before .before .before .before .before .before .before .before .before .before .before .before .before .before .pre .1 .0 .1) _ (c .before .before .before .before .before .before .before .before .before .before .before .before .before .before .before .before .before .before .before .before .open-block .ensures) _ (c .before .before .before .before .before .before .before .before .before .before .before .before .before .before .before .before .before .before .pushed .ensures) _ _ (c .before .before .before .before .before .before .before .before .before .before .before .before .before .before .before .before .before .block-kind .ensures) (c .before .before .before .before .before .before .before .before .before .before .before .before .before .before .before .before .block-op .ensures) (c .before .before .before .before .before .before .before .before .before .before .before .before .before .before .put-rec .ensures))
+    (λ c κs. block-asks _ _ _ _ _ _ _ _ (c .before .before .before .before .before .before .before .before .before .before .before .before .before .before .before .before .before .before .before .before .before .before .before .before .before .pre .1 .0 .0) (c .before .before .before .before .before .before .before .before .before .before .before .before .before .before .before .before .before .before .before .before .before .before .before .before .before .pre .1 .1) _ _ (c .before .before .before .before .before .before .before .before .before .before .before .before .before .before .before .before .before .before .before .before .before .before .before .before .before .pre .1 .0 .1) _ (c .before .before .before .before .before .before .before .before .before .before .before .before .before .before .before .before .before .before .before .before .before .open-block .ensures) _ (c .before .before .before .before .before .before .before .before .before .before .before .before .before .before .before .before .before .before .before .pushed .ensures) _ _ (c .before .before .before .before .before .before .before .before .before .before .before .before .before .before .before .before .before .before .block-kind .ensures) (c .before .before .before .before .before .before .before .before .before .before .before .before .before .before .before .before .before .block-op .ensures) (c .before .before .before .before .before .before .before .before .before .before .before .before .before .before .before .put-rec .ensures))
     -- enum-told
     (λ c. search needs)
     -- add-write-d-3
-    (λ c. let h = push-room _ _ _ _ _ _ _ _ (c .before .before .before .before .before .before .before .before .before .before .before .before .before .before .before .before .before .before .before .before .before .before .pre .1 .0 .0 .ready) in omega arith)
+    (λ c. let h = push-room _ _ _ _ _ _ _ _ (c .before .before .before .before .before .before .before .before .before .before .before .before .before .before .before .before .before .before .before .before .before .before .before .pre .1 .0 .0 .ready) in omega arith)
     -- write-d-requires-2
-    (λ c κs. (omega (arith, c .before .before .before .before .before .before .before .before .before .before .before .before .before .before .before .before .before .before .before .before .before .before .before .pre .0, c .before .before .before .before .before .before .before .before .before .before .before .before .before .before .before .before .before .before .before .before .before .before .before .pre .1 .0 .0 .ready .left), single-asks _ _ _ _ _ _ _ _ (c .before .before .before .before .before .before .before .before .before .before .before .before .before .before .before .before .before .before .before .before .before .before .before .pre .1 .0 .0) (c .before .before .before .before .before .before .before .before .before .before .before .before .before .before .before .before .before .before .before .before .before .before .before .pre .1 .1) _ _ (c .before .before .before .before .before .before .before .before .before .before .before .before .before .before .before .before .before .before .before .before .before .before .before .pre .1 .0 .1) _ (c .before .before .before .before .before .before .before .before .before .before .before .before .before .before .before .before .before .before .before .open-block .ensures) _ (c .before .before .before .before .before .before .before .before .before .before .before .before .before .before .before .before .before .pushed .ensures) _ _ (c .before .before .before .before .before .before .before .before .before .before .before .before .before .before .before .before .block-kind .ensures) (c .before .before .before .before .before .before .before .before .before .before .before .before .before .before .before .block-op .ensures) (c .before .before .before .before .before .before .before .before .before .before .before .before .before .put-rec .ensures) (c .before .before .before .before .before .before .before .before .before .table-recs .ensures) (c .before .before .before .before .before .write-d .result) (c .before .before .before .before .before .write-d .ensures .0) (c .before .before .before .before .before .write-d .ensures .1 .0) (c .before .enum-told .given .1)))
+    (λ c κs. (omega (arith, c .before .before .before .before .before .before .before .before .before .before .before .before .before .before .before .before .before .before .before .before .before .before .before .before .before .pre .0, c .before .before .before .before .before .before .before .before .before .before .before .before .before .before .before .before .before .before .before .before .before .before .before .before .before .pre .1 .0 .0 .ready .left), single-asks _ _ _ _ _ _ _ _ (c .before .before .before .before .before .before .before .before .before .before .before .before .before .before .before .before .before .before .before .before .before .before .before .before .before .pre .1 .0 .0) (c .before .before .before .before .before .before .before .before .before .before .before .before .before .before .before .before .before .before .before .before .before .before .before .before .before .pre .1 .1) _ _ (c .before .before .before .before .before .before .before .before .before .before .before .before .before .before .before .before .before .before .before .before .before .before .before .before .before .pre .1 .0 .1) _ (c .before .before .before .before .before .before .before .before .before .before .before .before .before .before .before .before .before .before .before .before .before .open-block .ensures) _ (c .before .before .before .before .before .before .before .before .before .before .before .before .before .before .before .before .before .before .before .pushed .ensures) _ _ (c .before .before .before .before .before .before .before .before .before .before .before .before .before .before .before .before .before .before .block-kind .ensures) (c .before .before .before .before .before .before .before .before .before .before .before .before .before .before .before .before .before .block-op .ensures) (c .before .before .before .before .before .before .before .before .before .before .before .before .before .before .before .put-rec .ensures) (c .before .before .before .before .before .before .before .before .before .before .before .table-recs .ensures) (c .before .before .before .before .before .before .write-d .result) (c .before .before .before .before .before .before .write-d .ensures .0) (c .before .before .before .before .before .before .write-d .ensures .1 .0) (c .before .before .enum-told .given .1)))
     -- single-info-requires
-    (λ c κs. block-asks _ _ _ _ _ _ _ _ (c .before .before .before .before .before .before .before .before .before .before .before .before .before .before .before .before .before .before .before .before .before .before .before .before .before .before .pre .1 .0 .0) (c .before .before .before .before .before .before .before .before .before .before .before .before .before .before .before .before .before .before .before .before .before .before .before .before .before .before .pre .1 .1) _ _ (c .before .before .before .before .before .before .before .before .before .before .before .before .before .before .before .before .before .before .before .before .before .before .before .before .before .before .pre .1 .0 .1) _ (c .before .before .before .before .before .before .before .before .before .before .before .before .before .before .before .before .before .before .before .before .before .before .open-block .ensures) _ (c .before .before .before .before .before .before .before .before .before .before .before .before .before .before .before .before .before .before .before .before .pushed .ensures) _ _ (c .before .before .before .before .before .before .before .before .before .before .before .before .before .before .before .before .before .before .before .block-kind .ensures) (c .before .before .before .before .before .before .before .before .before .before .before .before .before .before .before .before .before .before .block-op .ensures) (c .before .before .before .before .before .before .before .before .before .before .before .before .before .before .before .before .put-rec .ensures))
+    (λ c κs. block-asks _ _ _ _ _ _ _ _ (c .before .before .before .before .before .before .before .before .before .before .before .before .before .before .before .before .before .before .before .before .before .before .before .before .before .before .before .before .pre .1 .0 .0) (c .before .before .before .before .before .before .before .before .before .before .before .before .before .before .before .before .before .before .before .before .before .before .before .before .before .before .before .before .pre .1 .1) _ _ (c .before .before .before .before .before .before .before .before .before .before .before .before .before .before .before .before .before .before .before .before .before .before .before .before .before .before .before .before .pre .1 .0 .1) _ (c .before .before .before .before .before .before .before .before .before .before .before .before .before .before .before .before .before .before .before .before .before .before .before .before .open-block .ensures) _ (c .before .before .before .before .before .before .before .before .before .before .before .before .before .before .before .before .before .before .before .before .before .before .pushed .ensures) _ _ (c .before .before .before .before .before .before .before .before .before .before .before .before .before .before .before .before .before .before .before .before .before .block-kind .ensures) (c .before .before .before .before .before .before .before .before .before .before .before .before .before .before .before .before .before .before .before .before .block-op .ensures) (c .before .before .before .before .before .before .before .before .before .before .before .before .before .before .before .before .before .before .put-rec .ensures))
     -- same-length
-    (λ c. kept (c .before .before .before .before .before .before .before .write-d .ensures .1 .0) ∙ kept (c .before .before .before .before .before .before .before .before .before .before .before .table-recs .ensures) ∙ kept (c .before .before .before .before .before .before .before .before .before .before .before .before .before .before .before .put-rec .ensures))
+    (λ c. kept (c .before .before .before .before .before .before .before .write-d .ensures .1 .0) ∙ kept (c .before .before .before .before .before .before .before .before .before .before .before .before .table-recs .ensures) ∙ kept (c .before .before .before .before .before .before .before .before .before .before .before .before .before .before .before .before .put-rec .ensures))
     -- returns
-    (λ c. exists-done _ _ _ _ _ _ _ _ (c .before .before .before .before .before .before .before .before .before .before .before .before .before .before .before .before .before .before .before .before .before .before .before .before .before .pre .1 .0 .0) (c .before .before .before .before .before .before .before .before .before .before .before .before .before .before .before .before .before .before .before .before .before .before .before .before .before .pre .1 .1) _ _ (c .before .before .before .before .before .before .before .before .before .before .before .before .before .before .before .before .before .before .before .before .before .before .before .before .before .pre .1 .0 .1) _ (c .before .before .before .before .before .before .before .before .before .before .before .before .before .before .before .before .before .before .before .before .before .open-block .ensures) _ (c .before .before .before .before .before .before .before .before .before .before .before .before .before .before .before .before .before .before .before .pushed .ensures) _ _ (c .before .before .before .before .before .before .before .before .before .before .before .before .before .before .before .before .before .before .block-kind .ensures) (c .before .before .before .before .before .before .before .before .before .before .before .before .before .before .before .before .before .block-op .ensures) (c .before .before .before .before .before .before .before .before .before .before .before .before .before .before .before .put-rec .ensures) (c .before .before .before .before .before .before .before .before .before .before .before .table-recs .ensures) (c .before .before .before .before .before .before .before .write-d .result) (c .before .before .before .before .before .before .before .write-d .ensures .0) (c .before .before .before .before .before .before .before .write-d .ensures .1 .0) (c .before .before .before .asked .given .1) (c .before .fold-type .ensures) (c .before .before .before .before .before .before .before .write-d .ensures .1 .1 .1) (c .exists-info .ensures))
+    (λ c. exists-done _ _ _ _ _ _ _ _ (c .before .before .before .before .before .before .before .before .before .before .before .before .before .before .before .before .before .before .before .before .before .before .before .before .before .before .pre .1 .0 .0) (c .before .before .before .before .before .before .before .before .before .before .before .before .before .before .before .before .before .before .before .before .before .before .before .before .before .before .pre .1 .1) _ _ (c .before .before .before .before .before .before .before .before .before .before .before .before .before .before .before .before .before .before .before .before .before .before .before .before .before .before .pre .1 .0 .1) _ (c .before .before .before .before .before .before .before .before .before .before .before .before .before .before .before .before .before .before .before .before .before .before .open-block .ensures) _ (c .before .before .before .before .before .before .before .before .before .before .before .before .before .before .before .before .before .before .before .before .pushed .ensures) _ _ (c .before .before .before .before .before .before .before .before .before .before .before .before .before .before .before .before .before .before .before .block-kind .ensures) (c .before .before .before .before .before .before .before .before .before .before .before .before .before .before .before .before .before .before .block-op .ensures) (c .before .before .before .before .before .before .before .before .before .before .before .before .before .before .before .before .put-rec .ensures) (c .before .before .before .before .before .before .before .before .before .before .before .before .table-recs .ensures) (c .before .before .before .before .before .before .before .write-d .result) (c .before .before .before .before .before .before .before .write-d .ensures .0) (c .before .before .before .before .before .before .before .write-d .ensures .1 .0) (c .before .before .before .asked .given .1) (c .before .fold-type .ensures) (c .before .before .before .before .before .before .before .write-d .ensures .1 .1 .1) (c .exists-info .ensures))
     -- same-length-2
-    (λ c. kept (c .before .before .before .write-d2 .ensures .1 .0) ∙ kept (c .before .before .before .before .before .before .before .before .before .write-d .ensures .1 .0) ∙ kept (c .before .before .before .before .before .before .before .before .before .before .before .before .before .table-recs .ensures) ∙ kept (c .before .before .before .before .before .before .before .before .before .before .before .before .before .before .before .before .before .put-rec .ensures))
+    (λ c. kept (c .before .before .before .write-d2 .ensures .1 .0) ∙ kept (c .before .before .before .before .before .before .before .before .before .before .write-d .ensures .1 .0) ∙ kept (c .before .before .before .before .before .before .before .before .before .before .before .before .before .before .before .table-recs .ensures) ∙ kept (c .before .before .before .before .before .before .before .before .before .before .before .before .before .before .before .before .before .before .before .put-rec .ensures))
     -- returns-2
-    (λ c. single-done _ _ _ _ _ _ _ _ (c .before .before .before .before .before .before .before .before .before .before .before .before .before .before .before .before .before .before .before .before .before .before .before .before .before .before .before .pre .1 .0 .0) (c .before .before .before .before .before .before .before .before .before .before .before .before .before .before .before .before .before .before .before .before .before .before .before .before .before .before .before .pre .1 .1) _ _ (c .before .before .before .before .before .before .before .before .before .before .before .before .before .before .before .before .before .before .before .before .before .before .before .before .before .before .before .pre .1 .0 .1) _ (c .before .before .before .before .before .before .before .before .before .before .before .before .before .before .before .before .before .before .before .before .before .before .before .open-block .ensures) _ (c .before .before .before .before .before .before .before .before .before .before .before .before .before .before .before .before .before .before .before .before .before .pushed .ensures) _ _ (c .before .before .before .before .before .before .before .before .before .before .before .before .before .before .before .before .before .before .before .before .block-kind .ensures) (c .before .before .before .before .before .before .before .before .before .before .before .before .before .before .before .before .before .before .before .block-op .ensures) (c .before .before .before .before .before .before .before .before .before .before .before .before .before .before .before .before .before .put-rec .ensures) (c .before .before .before .before .before .before .before .before .before .before .before .before .before .table-recs .ensures) (c .before .before .before .before .before .before .before .before .before .write-d .result) (c .before .before .before .before .before .before .before .before .before .write-d .ensures .0) (c .before .before .before .before .before .before .before .before .before .write-d .ensures .1 .0) (c .before .before .before .before .before .enum-told .given .1) (c .before .before .before .write-d2 .ensures .0) (c .before .before .before .write-d2 .ensures .1 .0) (c .before .before .before .write-d2 .ensures .1 .1 .0) (c .before .before .before .before .before .before .before .before .before .write-d .ensures .1 .1 .1) (c .before .before .before .write-d2 .ensures .1 .1 .1) (c .single-info .ensures)))
+    (λ c. single-done _ _ _ _ _ _ _ _ (c .before .before .before .before .before .before .before .before .before .before .before .before .before .before .before .before .before .before .before .before .before .before .before .before .before .before .before .before .before .pre .1 .0 .0) (c .before .before .before .before .before .before .before .before .before .before .before .before .before .before .before .before .before .before .before .before .before .before .before .before .before .before .before .before .before .pre .1 .1) _ _ (c .before .before .before .before .before .before .before .before .before .before .before .before .before .before .before .before .before .before .before .before .before .before .before .before .before .before .before .before .before .pre .1 .0 .1) _ (c .before .before .before .before .before .before .before .before .before .before .before .before .before .before .before .before .before .before .before .before .before .before .before .before .before .open-block .ensures) _ (c .before .before .before .before .before .before .before .before .before .before .before .before .before .before .before .before .before .before .before .before .before .before .before .pushed .ensures) _ _ (c .before .before .before .before .before .before .before .before .before .before .before .before .before .before .before .before .before .before .before .before .before .before .block-kind .ensures) (c .before .before .before .before .before .before .before .before .before .before .before .before .before .before .before .before .before .before .before .before .before .block-op .ensures) (c .before .before .before .before .before .before .before .before .before .before .before .before .before .before .before .before .before .before .before .put-rec .ensures) (c .before .before .before .before .before .before .before .before .before .before .before .before .before .before .before .table-recs .ensures) (c .before .before .before .before .before .before .before .before .before .before .write-d .result) (c .before .before .before .before .before .before .before .before .before .before .write-d .ensures .0) (c .before .before .before .before .before .before .before .before .before .before .write-d .ensures .1 .0) (c .before .before .before .before .before .before .enum-told .given .1) (c .before .before .before .write-d2 .ensures .0) (c .before .before .before .write-d2 .ensures .1 .0) (c .before .before .before .write-d2 .ensures .1 .1 .0) (c .before .before .before .before .before .before .before .before .before .before .write-d .ensures .1 .1 .1) (c .before .before .before .write-d2 .ensures .1 .1 .1) (c .single-info .ensures)))
     (λ t. write-d-lts.spec (
       sound-at-reads.Asked,
       sound-at-reads.Learnt,
@@ -208,9 +208,9 @@ pub +write-block+write-d+write-limb-spec : {M : Type 1} → statement M
     -- add-write-d
     (λ c. let h = room-some _ (c .before .before .before .before .before .before .before .before .pre .1 .1) in search needs)
     -- write-d-requires
-    (λ c κs. (omega (arith, c .before .before .before .before .before .before .before .before .pre .0, c .before .before .before .before .before .before .before .before .pre .1 .0 .ready .left), left-asks _ _ _ _ _ _ _ _ (c .before .before .before .before .before .before .before .before .pre .1 .0) _ (c .before .before .before .before .sound-at .ensures) (c .before .before .before .before .before .before .before .before .pre .1 .1) (c .before .before .op .given .1)))
+    (λ c κs. (omega (arith, c .before .before .before .before .before .before .before .before .before .pre .0, c .before .before .before .before .before .before .before .before .before .pre .1 .0 .ready .left), left-asks _ _ _ _ _ _ _ _ (c .before .before .before .before .before .before .before .before .before .pre .1 .0) _ (c .before .before .before .before .before .sound-at .ensures) (c .before .before .before .before .before .before .before .before .before .pre .1 .1) (c .before .before .before .op .given .1)))
     -- write-d-requires-2
-    (λ c κs. (omega (arith, c .before .before .before .before .before .before .before .before .before .before .before .before .pre .0, c .before .before .before .before .before .before .before .before .before .before .before .before .pre .1 .0 .ready .left), right-asks _ _ _ _ _ _ _ _ (c .before .before .before .before .before .before .before .before .before .before .before .before .pre .1 .0) _ (c .before .before .before .before .before .before .before .before .sound-at .ensures) (c .before .before .before .before .before .before .before .before .before .before .before .before .pre .1 .1) (c .before .before .before .before .before .before .op .given .1) (c .before .before .before .write-d .result) (c .before .before .before .write-d .ensures .0) (c .before .before .before .write-d .ensures .1 .0)))
+    (λ c κs. (omega (arith, c .before .before .before .before .before .before .before .before .before .before .before .before .before .before .pre .0, c .before .before .before .before .before .before .before .before .before .before .before .before .before .before .pre .1 .0 .ready .left), right-asks _ _ _ _ _ _ _ _ (c .before .before .before .before .before .before .before .before .before .before .before .before .before .before .pre .1 .0) _ (c .before .before .before .before .before .before .before .before .before .before .sound-at .ensures) (c .before .before .before .before .before .before .before .before .before .before .before .before .before .before .pre .1 .1) (c .before .before .before .before .before .before .before .before .op .given .1) (c .before .before .before .before .write-d .result) (c .before .before .before .before .write-d .ensures .0) (c .before .before .before .before .write-d .ensures .1 .0)))
     -- binop-type-requires
     (λ c κs. search needs)
     -- joined-requires
@@ -218,25 +218,25 @@ pub +write-block+write-d+write-limb-spec : {M : Type 1} → statement M
     -- digits-of-requires
     (λ c κs. search needs)
     -- put-rec-requires
-    (λ c κs. binop-asks _ _ _ _ _ _ _ _ (c .before .before .before .before .before .before .before .before .before .before .before .before .before .before .before .before .before .before .before .pre .1 .0) _ (c .before .before .before .before .before .before .before .before .before .before .before .before .before .before .before .sound-at .ensures) (c .before .before .before .before .before .before .before .before .before .before .before .before .before .before .before .before .before .before .before .pre .1 .1) (c .before .before .before .before .before .before .before .before .before .before .before .before .before .op .given .1) (c .before .before .before .before .before .before .before .before .before .before .write-d .result) (c .before .before .before .before .before .before .before .before .before .before .write-d .ensures .0) (c .before .before .before .before .before .before .before .before .before .before .write-d .ensures .1 .0) (c .before .before .before .before .before .before .write-d2 .result) (c .before .before .before .before .before .before .write-d2 .ensures .0) (c .before .before .before .before .before .before .write-d2 .ensures .1 .0))
+    (λ c κs. binop-asks _ _ _ _ _ _ _ _ (c .before .before .before .before .before .before .before .before .before .before .before .before .before .before .before .before .before .before .before .before .before .pre .1 .0) _ (c .before .before .before .before .before .before .before .before .before .before .before .before .before .before .before .before .before .sound-at .ensures) (c .before .before .before .before .before .before .before .before .before .before .before .before .before .before .before .before .before .before .before .before .before .pre .1 .1) (c .before .before .before .before .before .before .before .before .before .before .before .before .before .before .before .op .given .1) (c .before .before .before .before .before .before .before .before .before .before .before .write-d .result) (c .before .before .before .before .before .before .before .before .before .before .before .write-d .ensures .0) (c .before .before .before .before .before .before .before .before .before .before .before .write-d .ensures .1 .0) (c .before .before .before .before .before .before .write-d2 .result) (c .before .before .before .before .before .before .write-d2 .ensures .0) (c .before .before .before .before .before .before .write-d2 .ensures .1 .0))
     -- enum-told
     (λ c. search needs)
     -- put-rec-requires-2
     (λ c κs. room-some _ (c .before .before .before .before .before .before .before .pre .1 .1))
     -- write-d-requires-3
-    (λ c κs. (omega (arith, c .before .before .before .before .before .before .before .before .before .before .before .pre .0, c .before .before .before .before .before .before .before .before .before .before .before .pre .1 .0 .ready .left), not-asks _ _ _ _ _ _ _ _ (c .before .before .before .before .before .before .before .before .before .before .before .pre .1 .0) _ (c .before .before .before .before .before .before .before .sound-at .ensures) (c .before .before .before .before .before .before .before .before .before .before .before .pre .1 .1) (c .before .before .before .before .before .enum-told .given .1) (c .before .before .before .put-rec2 .ensures)))
+    (λ c κs. (omega (arith, c .before .before .before .before .before .before .before .before .before .before .before .before .pre .0, c .before .before .before .before .before .before .before .before .before .before .before .before .pre .1 .0 .ready .left), not-asks _ _ _ _ _ _ _ _ (c .before .before .before .before .before .before .before .before .before .before .before .before .pre .1 .0) _ (c .before .before .before .before .before .before .before .before .sound-at .ensures) (c .before .before .before .before .before .before .before .before .before .before .before .before .pre .1 .1) (c .before .before .before .before .before .before .enum-told .given .1) (c .before .before .before .before .put-rec2 .ensures)))
     -- enum-told-2
     (λ c. search needs)
     -- type-at-requires
-    (λ c κs. c .before .before .before .before .before .before .pre .1 .0)
+    (λ c κs. c .before .before .before .before .before .before .before .pre .1 .0)
     -- put-rec-requires-3
-    (λ c κs. room-some _ (c .before .before .before .before .before .before .before .before .pre .1 .1))
+    (λ c κs. room-some _ (c .before .before .before .before .before .before .before .before .before .pre .1 .1))
     -- write-d-requires-4
-    (λ c κs. (omega (arith, c .before .before .before .before .before .before .before .before .before .before .before .before .pre .0, c .before .before .before .before .before .before .before .before .before .before .before .before .pre .1 .0 .ready .left), test-asks _ _ _ _ _ _ _ _ (c .before .before .before .before .before .before .before .before .before .before .before .before .pre .1 .0) _ (c .before .before .before .before .before .before .before .before .sound-at .ensures) (c .before .before .before .before .before .before .before .before .before .before .before .before .pre .1 .1) (c .before .before .before .before .before .before .enum-told2 .given .1) (c .before .before .before .before .before .type-at .ensures) (c .before .before .before .put-rec3 .ensures)))
+    (λ c κs. (omega (arith, c .before .before .before .before .before .before .before .before .before .before .before .before .before .before .pre .0, c .before .before .before .before .before .before .before .before .before .before .before .before .before .before .pre .1 .0 .ready .left), test-asks _ _ _ _ _ _ _ _ (c .before .before .before .before .before .before .before .before .before .before .before .before .before .before .pre .1 .0) _ (c .before .before .before .before .before .before .before .before .before .before .sound-at .ensures) (c .before .before .before .before .before .before .before .before .before .before .before .before .before .before .pre .1 .1) (c .before .before .before .before .before .before .before .before .enum-told2 .given .1) (c .before .before .before .before .before .before .type-at .ensures) (c .before .before .before .before .put-rec3 .ensures)))
     -- write-limb-requires
-    (λ c κs. (omega (arith, c .before .before .before .before .before .before .before .before .before .before .before .before .before .before .before .before .pre .0, c .before .before .before .before .before .before .before .before .before .before .before .before .before .before .before .before .pre .1 .0 .ready .left), yes-asks _ _ _ _ _ _ _ _ (c .before .before .before .before .before .before .before .before .before .before .before .before .before .before .before .before .pre .1 .0) _ (c .before .before .before .before .before .before .before .before .before .before .before .before .sound-at .ensures) (c .before .before .before .before .before .before .before .before .before .before .before .before .before .before .before .before .pre .1 .1) (c .before .before .before .before .before .before .before .before .before .before .enum-told2 .given .1) (c .before .before .before .before .before .before .before .before .before .type-at .ensures) (c .before .before .before .before .before .before .before .put-rec3 .ensures) (c .before .before .before .write-d4 .result) (c .before .before .before .write-d4 .ensures .0) (c .before .before .before .write-d4 .ensures .1 .0)))
+    (λ c κs. (omega (arith, c .before .before .before .before .before .before .before .before .before .before .before .before .before .before .before .before .before .before .before .pre .0, c .before .before .before .before .before .before .before .before .before .before .before .before .before .before .before .before .before .before .before .pre .1 .0 .ready .left), yes-asks _ _ _ _ _ _ _ _ (c .before .before .before .before .before .before .before .before .before .before .before .before .before .before .before .before .before .before .before .pre .1 .0) _ (c .before .before .before .before .before .before .before .before .before .before .before .before .before .before .before .sound-at .ensures) (c .before .before .before .before .before .before .before .before .before .before .before .before .before .before .before .before .before .before .before .pre .1 .1) (c .before .before .before .before .before .before .before .before .before .before .before .before .before .enum-told2 .given .1) (c .before .before .before .before .before .before .before .before .before .before .before .type-at .ensures) (c .before .before .before .before .before .before .before .before .before .put-rec3 .ensures) (c .before .before .before .before .write-d4 .result) (c .before .before .before .before .write-d4 .ensures .0) (c .before .before .before .before .write-d4 .ensures .1 .0)))
     -- write-limb-requires-2
-    (λ c κs. (omega (arith, c .before .before .before .before .before .before .before .before .before .before .before .before .before .before .before .before .before .before .before .before .pre .0, c .before .before .before .before .before .before .before .before .before .before .before .before .before .before .before .before .before .before .before .before .pre .1 .0 .ready .left), no-asks _ _ _ _ _ _ _ _ (c .before .before .before .before .before .before .before .before .before .before .before .before .before .before .before .before .before .before .before .before .pre .1 .0) _ (c .before .before .before .before .before .before .before .before .before .before .before .before .before .before .before .before .sound-at .ensures) (c .before .before .before .before .before .before .before .before .before .before .before .before .before .before .before .before .before .before .before .before .pre .1 .1) (c .before .before .before .before .before .before .before .before .before .before .before .before .before .before .enum-told2 .given .1) (c .before .before .before .before .before .before .before .before .before .before .before .before .before .type-at .ensures) (c .before .before .before .before .before .before .before .before .before .before .before .put-rec3 .ensures) (c .before .before .before .before .before .before .before .write-d4 .result) (c .before .before .before .before .before .before .before .write-d4 .ensures .0) (c .before .before .before .before .before .before .before .write-d4 .ensures .1 .0) (c .before .before .before .write-limb .result) (c .before .before .before .write-limb .ensures .0) (c .before .before .before .write-limb .ensures .1 .0)))
+    (λ c κs. (omega (arith, c .before .before .before .before .before .before .before .before .before .before .before .before .before .before .before .before .before .before .before .before .before .before .before .before .pre .0, c .before .before .before .before .before .before .before .before .before .before .before .before .before .before .before .before .before .before .before .before .before .before .before .before .pre .1 .0 .ready .left), no-asks _ _ _ _ _ _ _ _ (c .before .before .before .before .before .before .before .before .before .before .before .before .before .before .before .before .before .before .before .before .before .before .before .before .pre .1 .0) _ (c .before .before .before .before .before .before .before .before .before .before .before .before .before .before .before .before .before .before .before .before .sound-at .ensures) (c .before .before .before .before .before .before .before .before .before .before .before .before .before .before .before .before .before .before .before .before .before .before .before .before .pre .1 .1) (c .before .before .before .before .before .before .before .before .before .before .before .before .before .before .before .before .before .before .enum-told2 .given .1) (c .before .before .before .before .before .before .before .before .before .before .before .before .before .before .before .before .type-at .ensures) (c .before .before .before .before .before .before .before .before .before .before .before .before .before .before .put-rec3 .ensures) (c .before .before .before .before .before .before .before .before .before .write-d4 .result) (c .before .before .before .before .before .before .before .before .before .write-d4 .ensures .0) (c .before .before .before .before .before .before .before .before .before .write-d4 .ensures .1 .0) (c .before .before .before .before .write-limb .result) (c .before .before .before .before .write-limb .ensures .0) (c .before .before .before .before .write-limb .ensures .1 .0)))
     -- chosen-requires
     (λ c κs. search needs)
     -- joined-requires-2
@@ -246,13 +246,13 @@ pub +write-block+write-d+write-limb-spec : {M : Type 1} → statement M
     -- cast-write-block
     (λ c. search needs)
     -- write-block-requires
-    (λ c κs. (omega (arith, c .before .before .before .before .before .before .before .before .pre .0), ((c .before .before .before .before .before .before .before .before .pre .1 .0, exists-node _ _ _ _ _ (c .before .before .before .before .sound-at .ensures) (c .before .before .a .given .1)), c .before .before .before .before .before .before .before .before .pre .1 .1)))
+    (λ c κs. (omega (arith, c .before .before .before .before .before .before .before .before .before .pre .0), ((c .before .before .before .before .before .before .before .before .before .pre .1 .0, exists-node _ _ _ _ _ (c .before .before .before .before .before .sound-at .ensures) (c .before .before .before .a .given .1)), c .before .before .before .before .before .before .before .before .before .pre .1 .1)))
     -- enum-known-a-2
     (λ c. search needs)
     -- cast-write-block-2
     (λ c. search needs)
     -- write-block-requires-2
-    (λ c κs. (omega (arith, c .before .before .before .before .before .before .before .before .pre .0), ((c .before .before .before .before .before .before .before .before .pre .1 .0, single-node _ _ _ _ _ (c .before .before .before .before .sound-at .ensures) (c .before .before .a2 .given .1)), c .before .before .before .before .before .before .before .before .pre .1 .1)))
+    (λ c κs. (omega (arith, c .before .before .before .before .before .before .before .before .before .pre .0), ((c .before .before .before .before .before .before .before .before .before .pre .1 .0, single-node _ _ _ _ _ (c .before .before .before .before .before .sound-at .ensures) (c .before .before .before .a2 .given .1)), c .before .before .before .before .before .before .before .before .before .pre .1 .1)))
     -- enum-known-name
     (λ c. search needs)
     -- find-requires
@@ -276,15 +276,15 @@ pub +write-block+write-d+write-limb-spec : {M : Type 1} → statement M
     -- put-rec-requires-4
     (λ c κs. room-some _ (c .before .before .before .before .before .before .before .before .pre .1 .1))
     -- write-d-requires-5
-    (λ c κs. (omega (arith, c .before .before .before .before .before .before .before .before .before .before .before .before .pre .0, c .before .before .before .before .before .before .before .before .before .before .before .before .pre .1 .0 .ready .left), value-asks _ _ _ _ _ _ _ _ (c .before .before .before .before .before .before .before .before .before .before .before .before .pre .1 .0) _ (c .before .before .before .before .before .before .before .before .sound-at .ensures) (c .before .before .before .before .before .before .before .before .before .before .before .before .pre .1 .1) (c .before .before .before .before .before .before .name3 .given .1) (c .before .before .before .put-rec4 .ensures)))
+    (λ c κs. (omega (arith, c .before .before .before .before .before .before .before .before .before .before .before .before .before .pre .0, c .before .before .before .before .before .before .before .before .before .before .before .before .before .pre .1 .0 .ready .left), value-asks _ _ _ _ _ _ _ _ (c .before .before .before .before .before .before .before .before .before .before .before .before .before .pre .1 .0) _ (c .before .before .before .before .before .before .before .before .before .sound-at .ensures) (c .before .before .before .before .before .before .before .before .before .before .before .before .before .pre .1 .1) (c .before .before .before .before .before .before .before .name3 .given .1) (c .before .before .before .before .put-rec4 .ensures)))
     -- local-scope-requires
     (λ c κs. search needs)
     -- pushed-requires
-    (λ c κs. let h = push-room _ _ _ _ _ _ _ _ (c .before .before .before .before .before .before .before .before .before .before .before .before .before .before .before .before .pre .1 .0 .ready) in search needs)
+    (λ c κs. let h = push-room _ _ _ _ _ _ _ _ (c .before .before .before .before .before .before .before .before .before .before .before .before .before .before .before .before .before .pre .1 .0 .ready) in search needs)
     -- add-write-d-2
-    (λ c. let h = push-room _ _ _ _ _ _ _ _ (c .before .before .before .before .before .before .before .before .before .before .before .before .before .before .before .before .before .pre .1 .0 .ready) in omega arith)
+    (λ c. let h = push-room _ _ _ _ _ _ _ _ (c .before .before .before .before .before .before .before .before .before .before .before .before .before .before .before .before .before .before .pre .1 .0 .ready) in omega arith)
     -- write-d-requires-6
-    (λ c κs. (omega (arith, c .before .before .before .before .before .before .before .before .before .before .before .before .before .before .before .before .before .before .pre .0, c .before .before .before .before .before .before .before .before .before .before .before .before .before .before .before .before .before .before .pre .1 .0 .ready .left), body-asks _ _ _ _ _ _ _ _ (c .before .before .before .before .before .before .before .before .before .before .before .before .before .before .before .before .before .before .pre .1 .0) _ (c .before .before .before .before .before .before .before .before .before .before .before .before .before .before .sound-at .ensures) (c .before .before .before .before .before .before .before .before .before .before .before .before .before .before .before .before .before .before .pre .1 .1) (c .before .before .before .before .before .before .before .before .before .before .before .before .name3 .given .1) (c .before .before .before .before .before .before .before .before .before .put-rec4 .ensures) (c .before .before .before .before .before .write-d5 .result) (c .before .before .before .before .before .write-d5 .ensures .0) (c .before .before .before .before .before .write-d5 .ensures .1 .0) (c .before .before .before .before .before .write-d5 .ensures .1 .1 .0) (c .before .before .before .before .before .write-d5 .ensures .1 .1 .1) _ _ (c .before .before .local-scope .ensures) (c .before .pushed .ensures)))
+    (λ c κs. (omega (arith, c .before .before .before .before .before .before .before .before .before .before .before .before .before .before .before .before .before .before .before .before .pre .0, c .before .before .before .before .before .before .before .before .before .before .before .before .before .before .before .before .before .before .before .before .pre .1 .0 .ready .left), body-asks _ _ _ _ _ _ _ _ (c .before .before .before .before .before .before .before .before .before .before .before .before .before .before .before .before .before .before .before .before .pre .1 .0) _ (c .before .before .before .before .before .before .before .before .before .before .before .before .before .before .before .before .sound-at .ensures) (c .before .before .before .before .before .before .before .before .before .before .before .before .before .before .before .before .before .before .before .before .pre .1 .1) (c .before .before .before .before .before .before .before .before .before .before .before .before .before .before .name3 .given .1) (c .before .before .before .before .before .before .before .before .before .before .before .put-rec4 .ensures) (c .before .before .before .before .before .before .write-d5 .result) (c .before .before .before .before .before .before .write-d5 .ensures .0) (c .before .before .before .before .before .before .write-d5 .ensures .1 .0) (c .before .before .before .before .before .before .write-d5 .ensures .1 .1 .0) (c .before .before .before .before .before .before .write-d5 .ensures .1 .1 .1) _ _ (c .before .before .before .local-scope .ensures) (c .before .before .pushed .ensures)))
     -- enum-told-3
     (λ c. search needs)
     -- enum-told-4
@@ -296,17 +296,17 @@ pub +write-block+write-d+write-limb-spec : {M : Type 1} → statement M
     -- returns
     (λ c. const-done _ _ _ _ _ _ _ _ (c .before .before .before .before .before .before .before .before .before .before .before .pre .1 .0) _ (c .before .before .before .before .before .before .before .sound-at .ensures) (c .before .before .before .before .before .before .before .before .before .before .before .pre .1 .1) (c .before .before .before .before .before .ty .given .1) (c .before .before .copy-const .ensures))
     -- same-length-2
-    (λ c. kept (c .before .before .put-rec .ensures) ∙ kept (c .before .before .before .before .before .before .before .before .before .write-d2 .ensures .1 .0) ∙ kept (c .before .before .before .before .before .before .before .before .before .before .before .before .before .write-d .ensures .1 .0))
+    (λ c. kept (c .before .before .put-rec .ensures) ∙ kept (c .before .before .before .before .before .before .before .before .before .write-d2 .ensures .1 .0) ∙ kept (c .before .before .before .before .before .before .before .before .before .before .before .before .before .before .write-d .ensures .1 .0))
     -- returns-2
-    (λ c. binop-done _ _ _ _ _ _ _ _ (c .before .before .before .before .before .before .before .before .before .before .before .before .before .before .before .before .before .before .before .before .before .before .pre .1 .0) _ (c .before .before .before .before .before .before .before .before .before .before .before .before .before .before .before .before .before .before .sound-at .ensures) (c .before .before .before .before .before .before .before .before .before .before .before .before .before .before .before .before .before .before .before .before .before .before .pre .1 .1) (c .before .before .before .before .before .before .before .before .before .before .before .before .before .before .before .before .op .given .1) (c .before .before .before .before .before .before .before .before .before .before .before .before .before .write-d .result) (c .before .before .before .before .before .before .before .before .before .before .before .before .before .write-d .ensures .0) (c .before .before .before .before .before .before .before .before .before .before .before .before .before .write-d .ensures .1 .0) (c .before .before .before .before .before .before .before .before .before .write-d2 .result) (c .before .before .before .before .before .before .before .before .before .write-d2 .ensures .0) (c .before .before .before .before .before .before .before .before .before .write-d2 .ensures .1 .0) (c .before .before .before .before .before .before .before .before .before .before .before .before .before .write-d .ensures .1 .1 .0) (c .before .before .before .before .before .before .before .before .before .write-d2 .ensures .1 .1 .0) (c .before .before .before .before .before .before .binop-type .ensures) (c .before .before .before .before .digits-of .ensures) (c .before .before .put-rec .ensures) (c .before .before .before .before .before .before .before .before .before .before .before .before .before .write-d .ensures .1 .1 .1) (c .before .before .before .before .before .before .before .before .before .write-d2 .ensures .1 .1 .1) (c .before .before .before .before .before .joined .ensures))
+    (λ c. binop-done _ _ _ _ _ _ _ _ (c .before .before .before .before .before .before .before .before .before .before .before .before .before .before .before .before .before .before .before .before .before .before .before .before .pre .1 .0) _ (c .before .before .before .before .before .before .before .before .before .before .before .before .before .before .before .before .before .before .before .before .sound-at .ensures) (c .before .before .before .before .before .before .before .before .before .before .before .before .before .before .before .before .before .before .before .before .before .before .before .before .pre .1 .1) (c .before .before .before .before .before .before .before .before .before .before .before .before .before .before .before .before .before .before .op .given .1) (c .before .before .before .before .before .before .before .before .before .before .before .before .before .before .write-d .result) (c .before .before .before .before .before .before .before .before .before .before .before .before .before .before .write-d .ensures .0) (c .before .before .before .before .before .before .before .before .before .before .before .before .before .before .write-d .ensures .1 .0) (c .before .before .before .before .before .before .before .before .before .write-d2 .result) (c .before .before .before .before .before .before .before .before .before .write-d2 .ensures .0) (c .before .before .before .before .before .before .before .before .before .write-d2 .ensures .1 .0) (c .before .before .before .before .before .before .before .before .before .before .before .before .before .before .write-d .ensures .1 .1 .0) (c .before .before .before .before .before .before .before .before .before .write-d2 .ensures .1 .1 .0) (c .before .before .before .before .before .before .binop-type .ensures) (c .before .before .before .before .digits-of .ensures) (c .before .before .put-rec .ensures) (c .before .before .before .before .before .before .before .before .before .before .before .before .before .before .write-d .ensures .1 .1 .1) (c .before .before .before .before .before .before .before .before .before .write-d2 .ensures .1 .1 .1) (c .before .before .before .before .before .joined .ensures))
     -- same-length-3
-    (λ c. kept (c .before .before .write-d3 .ensures .1 .0) ∙ kept (c .before .before .before .before .before .before .put-rec2 .ensures))
+    (λ c. kept (c .before .before .write-d3 .ensures .1 .0) ∙ kept (c .before .before .before .before .before .before .before .put-rec2 .ensures))
     -- returns-3
-    (λ c. not-done _ _ _ _ _ _ _ _ (c .before .before .before .before .before .before .before .before .before .before .before .before .before .before .pre .1 .0) _ (c .before .before .before .before .before .before .before .before .before .before .sound-at .ensures) (c .before .before .before .before .before .before .before .before .before .before .before .before .before .before .pre .1 .1) (c .before .before .before .before .before .before .before .before .enum-told .given .1) (c .before .before .before .before .before .before .put-rec2 .ensures) (c .before .before .write-d3 .ensures .0) (c .before .before .write-d3 .ensures .1 .0) (c .before .before .write-d3 .ensures .1 .1 .0) (c .before .before .write-d3 .ensures .1 .1 .1))
+    (λ c. not-done _ _ _ _ _ _ _ _ (c .before .before .before .before .before .before .before .before .before .before .before .before .before .before .before .pre .1 .0) _ (c .before .before .before .before .before .before .before .before .before .before .before .sound-at .ensures) (c .before .before .before .before .before .before .before .before .before .before .before .before .before .before .before .pre .1 .1) (c .before .before .before .before .before .before .before .before .before .enum-told .given .1) (c .before .before .before .before .before .before .before .put-rec2 .ensures) (c .before .before .write-d3 .ensures .0) (c .before .before .write-d3 .ensures .1 .0) (c .before .before .write-d3 .ensures .1 .1 .0) (c .before .before .write-d3 .ensures .1 .1 .1))
     -- same-length-4
-    (λ c. kept (c .before .before .before .before .write-limb2 .ensures .1 .0) ∙ kept (c .before .before .before .before .before .before .before .before .write-limb .ensures .1 .0) ∙ kept (c .before .before .before .before .before .before .before .before .before .before .before .before .write-d4 .ensures .1 .0) ∙ kept (c .before .before .before .before .before .before .before .before .before .before .before .before .before .before .before .before .put-rec3 .ensures))
+    (λ c. kept (c .before .before .before .before .write-limb2 .ensures .1 .0) ∙ kept (c .before .before .before .before .before .before .before .before .before .write-limb .ensures .1 .0) ∙ kept (c .before .before .before .before .before .before .before .before .before .before .before .before .before .before .write-d4 .ensures .1 .0) ∙ kept (c .before .before .before .before .before .before .before .before .before .before .before .before .before .before .before .before .before .before .before .put-rec3 .ensures))
     -- returns-4
-    (λ c. if-done _ _ _ _ _ _ _ _ (c .before .before .before .before .before .before .before .before .before .before .before .before .before .before .before .before .before .before .before .before .before .before .before .before .before .pre .1 .0) _ (c .before .before .before .before .before .before .before .before .before .before .before .before .before .before .before .before .before .before .before .before .before .sound-at .ensures) (c .before .before .before .before .before .before .before .before .before .before .before .before .before .before .before .before .before .before .before .before .before .before .before .before .before .pre .1 .1) (c .before .before .before .before .before .before .before .before .before .before .before .before .before .before .before .before .before .before .before .enum-told2 .given .1) (c .before .before .before .before .before .before .before .before .before .before .before .before .before .before .before .before .before .before .type-at .ensures) (c .before .before .before .before .before .before .before .before .before .before .before .before .before .before .before .before .put-rec3 .ensures) (c .before .before .before .before .before .before .before .before .before .before .before .before .write-d4 .result) (c .before .before .before .before .before .before .before .before .before .before .before .before .write-d4 .ensures .0) (c .before .before .before .before .before .before .before .before .before .before .before .before .write-d4 .ensures .1 .0) (c .before .before .before .before .before .before .before .before .write-limb .result) (c .before .before .before .before .before .before .before .before .write-limb .ensures .0) (c .before .before .before .before .before .before .before .before .write-limb .ensures .1 .0) (c .before .before .before .before .write-limb2 .result) (c .before .before .before .before .write-limb2 .ensures .0) (c .before .before .before .before .write-limb2 .ensures .1 .0) (c .before .before .before .before .before .before .before .before .before .before .before .before .write-d4 .ensures .1 .1 .1) (c .before .before .before .before .before .before .before .before .write-limb .ensures .1 .1 .1) (c .before .before .before .before .write-limb2 .ensures .1 .1 .1) (c .before .chosen .ensures) (c .joined2 .ensures))
+    (λ c. if-done _ _ _ _ _ _ _ _ (c .before .before .before .before .before .before .before .before .before .before .before .before .before .before .before .before .before .before .before .before .before .before .before .before .before .before .before .before .before .pre .1 .0) _ (c .before .before .before .before .before .before .before .before .before .before .before .before .before .before .before .before .before .before .before .before .before .before .before .before .before .sound-at .ensures) (c .before .before .before .before .before .before .before .before .before .before .before .before .before .before .before .before .before .before .before .before .before .before .before .before .before .before .before .before .before .pre .1 .1) (c .before .before .before .before .before .before .before .before .before .before .before .before .before .before .before .before .before .before .before .before .before .before .before .enum-told2 .given .1) (c .before .before .before .before .before .before .before .before .before .before .before .before .before .before .before .before .before .before .before .before .before .type-at .ensures) (c .before .before .before .before .before .before .before .before .before .before .before .before .before .before .before .before .before .before .before .put-rec3 .ensures) (c .before .before .before .before .before .before .before .before .before .before .before .before .before .before .write-d4 .result) (c .before .before .before .before .before .before .before .before .before .before .before .before .before .before .write-d4 .ensures .0) (c .before .before .before .before .before .before .before .before .before .before .before .before .before .before .write-d4 .ensures .1 .0) (c .before .before .before .before .before .before .before .before .before .write-limb .result) (c .before .before .before .before .before .before .before .before .before .write-limb .ensures .0) (c .before .before .before .before .before .before .before .before .before .write-limb .ensures .1 .0) (c .before .before .before .before .write-limb2 .result) (c .before .before .before .before .write-limb2 .ensures .0) (c .before .before .before .before .write-limb2 .ensures .1 .0) (c .before .before .before .before .before .before .before .before .before .before .before .before .before .before .write-d4 .ensures .1 .1 .1) (c .before .before .before .before .before .before .before .before .before .write-limb .ensures .1 .1 .1) (c .before .before .before .before .write-limb2 .ensures .1 .1 .1) (c .before .chosen .ensures) (c .joined2 .ensures))
     -- same-length-5
     (λ c. kept (c .before .before .write-block .ensures .1 .0))
     -- returns-5
@@ -324,9 +324,9 @@ pub +write-block+write-d+write-limb-spec : {M : Type 1} → statement M
     -- returns-8
     (λ c. class-done _ _ _ _ _ _ _ _ (c .before .before .before .before .before .before .before .before .before .before .before .before .before .pre .1 .0) _ (c .before .before .before .before .before .before .before .before .before .sound-at .ensures) (c .before .before .before .before .before .before .before .before .before .before .before .before .before .pre .1 .1) (c .before .before .before .before .before .before .before .name2 .given .1) _ (c .before .before .before .before .before .find2 .ensures) (c .before .before .before .put-cell-class .ensures) (c .row-info .ensures))
     -- same-length-9
-    (λ c. kept (c .before .before .write-d6 .ensures .1 .0) ∙ kept (c .before .before .before .before .before .before .before .before .write-d5 .ensures .1 .0) ∙ kept (c .before .before .before .before .before .before .before .before .before .before .before .before .put-rec4 .ensures))
+    (λ c. kept (c .before .before .write-d6 .ensures .1 .0) ∙ kept (c .before .before .before .before .before .before .before .before .before .write-d5 .ensures .1 .0) ∙ kept (c .before .before .before .before .before .before .before .before .before .before .before .before .before .before .put-rec4 .ensures))
     -- returns-9
-    (λ c. let-done _ _ _ _ _ _ _ _ (c .before .before .before .before .before .before .before .before .before .before .before .before .before .before .before .before .before .before .before .before .before .pre .1 .0) _ (c .before .before .before .before .before .before .before .before .before .before .before .before .before .before .before .before .before .sound-at .ensures) (c .before .before .before .before .before .before .before .before .before .before .before .before .before .before .before .before .before .before .before .before .before .pre .1 .1) (c .before .before .before .before .before .before .before .before .before .before .before .before .before .before .before .name3 .given .1) (c .before .before .before .before .before .before .before .before .before .before .before .before .put-rec4 .ensures) (c .before .before .before .before .before .before .before .before .write-d5 .result) (c .before .before .before .before .before .before .before .before .write-d5 .ensures .0) (c .before .before .before .before .before .before .before .before .write-d5 .ensures .1 .0) (c .before .before .before .before .before .before .before .before .write-d5 .ensures .1 .1 .0) (c .before .before .before .before .before .before .before .before .write-d5 .ensures .1 .1 .1) _ _ (c .before .before .before .before .before .local-scope .ensures) (c .before .before .before .before .pushed .ensures) (c .before .before .write-d6 .ensures .0) (c .before .before .write-d6 .ensures .1 .0) (c .before .before .write-d6 .ensures .1 .1 .0) (c .before .before .write-d6 .ensures .1 .1 .1))
+    (λ c. let-done _ _ _ _ _ _ _ _ (c .before .before .before .before .before .before .before .before .before .before .before .before .before .before .before .before .before .before .before .before .before .before .before .pre .1 .0) _ (c .before .before .before .before .before .before .before .before .before .before .before .before .before .before .before .before .before .before .before .sound-at .ensures) (c .before .before .before .before .before .before .before .before .before .before .before .before .before .before .before .before .before .before .before .before .before .before .before .pre .1 .1) (c .before .before .before .before .before .before .before .before .before .before .before .before .before .before .before .before .before .name3 .given .1) (c .before .before .before .before .before .before .before .before .before .before .before .before .before .before .put-rec4 .ensures) (c .before .before .before .before .before .before .before .before .before .write-d5 .result) (c .before .before .before .before .before .before .before .before .before .write-d5 .ensures .0) (c .before .before .before .before .before .before .before .before .before .write-d5 .ensures .1 .0) (c .before .before .before .before .before .before .before .before .before .write-d5 .ensures .1 .1 .0) (c .before .before .before .before .before .before .before .before .before .write-d5 .ensures .1 .1 .1) _ _ (c .before .before .before .before .before .before .local-scope .ensures) (c .before .before .before .before .before .pushed .ensures) (c .before .before .write-d6 .ensures .0) (c .before .before .write-d6 .ensures .1 .0) (c .before .before .write-d6 .ensures .1 .1 .0) (c .before .before .write-d6 .ensures .1 .1 .1))
     -- returns-10
     (λ c. absurd (no-table _ _ _ _ _ _ _ _ (c .before .before .before .before .before .before .pre .1 .0) _ (c .before .before .sound-at .ensures) (c .enum-told3 .given .1)))
     -- returns-11
@@ -344,12 +344,12 @@ pub +write-block+write-d+write-limb-spec : {M : Type 1} → statement M
     (write-limb-at t)
     write-limb.Post
     -- type-at-requires
-    (λ c κs. c .before .before .before .pre .1 .0)
+    (λ c κs. c .before .before .before .before .pre .1 .0)
     -- put-conv-requires
-    (λ c κs. (c .before .before .before .before .before .pre .1 .1 .0, conv-asks _ _ _ _ _ _ _ _ (c .before .before .before .before .before .pre .1 .0) _ _ (c .before .type-at .ensures) (c .before .before .before .before .before .pre .1 .1 .1)))
+    (λ c κs. (c .before .before .before .before .before .before .pre .1 .1 .0, conv-asks _ _ _ _ _ _ _ _ (c .before .before .before .before .before .before .pre .1 .0) _ _ (c .before .type-at .ensures) (c .before .before .before .before .before .before .pre .1 .1 .1)))
     -- write-d-requires
-    (λ c κs. (omega (arith, c .before .before .before .before .before .before .before .before .before .pre .0), limb-asks _ _ _ _ _ _ _ _ (c .before .before .before .before .before .before .before .before .before .pre .1 .0) _ _ (c .before .before .before .before .before .type-at .ensures) (c .before .before .before .before .before .before .before .before .before .pre .1 .1 .1) (c .before .before .before .put-conv .ensures)))
+    (λ c κs. (omega (arith, c .before .before .before .before .before .before .before .before .before .before .before .pre .0), limb-asks _ _ _ _ _ _ _ _ (c .before .before .before .before .before .before .before .before .before .before .before .pre .1 .0) _ _ (c .before .before .before .before .before .before .type-at .ensures) (c .before .before .before .before .before .before .before .before .before .before .before .pre .1 .1 .1) (c .before .before .before .before .put-conv .ensures)))
     -- same-length
-    (λ c. kept (c .before .before .write-d .ensures .1 .0) ∙ kept (c .before .before .before .before .before .before .put-conv .ensures))
+    (λ c. kept (c .before .before .write-d .ensures .1 .0) ∙ kept (c .before .before .before .before .before .before .before .put-conv .ensures))
     -- returns
-    (λ c. limb-done _ _ _ _ _ _ _ _ (c .before .before .before .before .before .before .before .before .before .before .before .before .pre .1 .0) _ _ (c .before .before .before .before .before .before .before .before .type-at .ensures) (c .before .before .before .before .before .before .before .before .before .before .before .before .pre .1 .1 .1) (c .before .before .before .before .before .before .put-conv .ensures) (c .before .before .write-d .ensures .0) (c .before .before .write-d .ensures .1 .0) (c .before .before .write-d .ensures .1 .1 .0) (c .before .before .write-d .ensures .1 .1 .1))
+    (λ c. limb-done _ _ _ _ _ _ _ _ (c .before .before .before .before .before .before .before .before .before .before .before .before .before .before .pre .1 .0) _ _ (c .before .before .before .before .before .before .before .before .before .type-at .ensures) (c .before .before .before .before .before .before .before .before .before .before .before .before .before .before .pre .1 .1 .1) (c .before .before .before .before .before .before .before .put-conv .ensures) (c .before .before .write-d .ensures .0) (c .before .before .write-d .ensures .1 .0) (c .before .before .write-d .ensures .1 .1 .0) (c .before .before .write-d .ensures .1 .1 .1))

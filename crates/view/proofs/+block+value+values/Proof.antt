@@ -14,8 +14,7 @@ use Rattle.view.proofs.values.Reads as values
 use Rattle.view.proofs.values.Kinds as values-kinds
 use Rattle.view.proofs.+block+value+values.Lts-values as values-lts
 use Rattle.view.proofs.again.Reads as again-reads
-use Rattle.view.proofs.node_at.Reads as node-at-reads
-use Rattle.view.proofs.slot_of.Reads as slot-of-reads
+use Rattle.view.proofs.form_at.Reads as form-at-reads
 use Rattle.view.proofs.place_after.Reads as place-after-reads
 use Rattle.view.proofs.tables.Reads as tables-reads
 use Rattle.view.specs.Parse.{many, parseValue, walkOf}
@@ -78,10 +77,8 @@ pub +block+value+values-spec : {M : Type 1} → statement M
     (λ c. search turns)
     (λ c. search turns))
     (λ t. value-lts.spec (
-      node-at-reads.Asked,
-      node-at-reads.Learnt,
-      slot-of-reads.Asked,
-      slot-of-reads.Learnt,
+      form-at-reads.Asked,
+      form-at-reads.Learnt,
       place-after-reads.Asked,
       place-after-reads.Learnt,
       values-below t,
@@ -95,47 +92,21 @@ pub +block+value+values-spec : {M : Type 1} → statement M
     value.Post
     (λ c. search turns)
     (λ c κs. search turns)
-    (λ c κs. search turns)
     (λ c. search turns)
     (λ c. search turns)
     (λ c. search turns)
     (λ c κs. search turns)
     (λ c. search turns)
     (λ c. search turns)
+    (λ c κs. search turns)
+    (λ c κs. search turns)
+    (λ c. search turns)
     (λ c. search turns)
     (λ c κs. search turns)
     (λ c κs. search turns)
     (λ c. search turns)
     (λ c κs. search turns)
     (λ c κs. search turns)
-    (λ c. search turns)
-    (λ c κs. search turns)
-    (λ c κs. search turns)
-    (λ c. search turns)
-    (λ c κs. search turns)
-    (λ c κs. search turns)
-    (λ c. search turns)
-    (λ c κs. search turns)
-    (λ c κs. search turns)
-    (λ c. search turns)
-    (λ c. search turns)
-    (λ c. search turns)
-    (λ c. search turns)
-    (λ c. search turns)
-    (λ c κs. search turns)
-    (λ c κs. search turns)
-    (λ c. search turns)
-    (λ c. search turns)
-    (λ c. search turns)
-    (λ c. search turns)
-    (λ c. search turns)
-    (λ c. search turns)
-    (λ c. search turns)
-    (λ c. search turns)
-    (λ c. search turns)
-    (λ c. search turns)
-    (λ c. search turns)
-    (λ c. search turns)
     (λ c. search turns))
     λ t. values-lts.spec
     (value-below t, value.Post)

@@ -20,7 +20,7 @@ write-known-spec =
     -- enum-told
     (λ c. search needs)
     -- write-open-requires
-    (λ c κs. (c .before .before .before .before .before .before .pre .0, (known-tree _ (c .before .before .before .before .before .before .pre .1 .0) (c .before .enum-told .given .1), c .before .before .before .before .before .before .pre .1 .1)))
+    (λ c κs. (c .before .before .before .before .before .before .before .pre .0, (known-tree _ (c .before .before .before .before .before .before .before .pre .1 .0) (c .before .before .enum-told .given .1), c .before .before .before .before .before .before .before .pre .1 .1)))
     -- same-length
     (λ c. kept (c .before .before .put-rec .ensures))
     -- returns

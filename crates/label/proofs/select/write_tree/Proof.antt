@@ -13,13 +13,13 @@ write-tree-spec =
     tie.close
     (tie.spec
     -- node-at-requires
-    (λ c κs. root-long _ _ _ _ (c .before .before .before .pre .0))
+    (λ c κs. root-long _ _ _ _ (c .before .before .before .before .before .pre .0))
     -- enum-known-node
     (λ c. search needs)
     -- returns
-    (λ c. let h = c .before .node-at .ensures ∙ root-there _ _ _ _ (c .before .before .before .before .before .pre .0) .2 in absurd (no-other (rw h at (c .match .keys2))))
+    (λ c. let h = c .before .node-at .ensures ∙ root-there _ _ _ _ (c .before .before .before .before .before .before .before .pre .0) .2 in absurd (no-other (rw h at (c .match .keys2))))
     -- write-root-requires
-    (λ c κs. ((c .before .before .before .before .before .before .before .before .pre .0, sym (c .before .before .before .before .node-at .ensures) ∙ c .before .before .node .given .1), (c .before .before .before .before .before .before .before .before .pre .1 .0, c .before .before .before .before .before .before .before .before .pre .1 .1)))
+    (λ c κs. ((c .before .before .before .before .before .before .before .before .before .before .before .pre .0, sym (c .before .before .before .before .before .node-at .ensures) ∙ c .before .before .before .node .given .1), (c .before .before .before .before .before .before .before .before .before .before .before .pre .1 .0, (c .before .before .before .before .before .before .before .before .before .before .before .pre .1 .1 .0, c .before .before .before .before .before .before .before .before .before .before .before .pre .1 .1 .1))))
     -- same-length
     (λ c. kept (c .before .before .write-root .ensures))
     -- returns-2

@@ -1,0 +1,57 @@
+-- `view::form_of` meets its contract: one law for each kind.
+-- Assumes nothing.
+use Rattle.view.proofs.Forms.{forms}
+use Rattle.view.proofs.form_of.Statement.{statement}
+use Rattle.view.proofs.form_of.Tie as tie
+
+pub form-of-spec : {M : Type 1} → statement M
+form-of-spec =
+    tie.close
+    (tie.spec
+    (λ c κs. search forms)
+    (λ c κs. search forms)
+    (λ c κs. search forms)
+    (λ c κs. search forms)
+    (λ c κs. search forms)
+    (λ c κs. search forms)
+    (λ c κs. search forms)
+    (λ c κs. search forms)
+    (λ c κs. search forms)
+    (λ c κs. search forms)
+    (λ c κs. search forms)
+    (λ c κs. search forms)
+    (λ c κs. search forms)
+    (λ c κs. search forms)
+    (λ c κs. search forms)
+    (λ c κs. search forms)
+    (λ c κs. search forms)
+    (λ c κs. search forms)
+    (λ c κs. search forms)
+    (λ c κs. search forms)
+    (λ c κs. search forms)
+    (λ c κs. search forms)
+    (λ c κs. search forms)
+    (λ c κs. search forms)
+    (λ c κs. search forms)
+    (λ c κs. search forms)
+    (λ c κs. search forms)
+    (λ c κs. search forms)
+    (λ c κs. search forms)
+    (λ c κs. search forms)
+    (λ c κs. search forms)
+    (λ c. search forms)
+    (λ c. search forms)
+    (λ c. search forms)
+    (λ c. search forms)
+    (λ c. search forms)
+    (λ c. search forms)
+    (λ c. search forms)
+    (λ c. search forms)
+    (λ c. search forms)
+    (λ c. search forms)
+    (λ c. search forms)
+    (λ c. search forms)
+    (λ c. search forms)
+    (λ c. search forms)
+    (λ c. search forms)
+    (λ c. search forms))
