@@ -7,7 +7,7 @@ ghost use Rattle.cases.specs.Opening.{opening_of};
 ghost use Rattle.cases.specs.Digest.{digest_of, digest_step, pattern};
 
 // A case: 1 Translate, 2 Answer; k and q; the lengths of the lent buffers and of the three files.
-#[derive(Drop)]
+#[derive(Clone, Copy)]
 pub struct Case {
     pub job: u16,
     pub k: u16,

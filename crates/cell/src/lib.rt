@@ -10,7 +10,7 @@ pub use types::{
     type_by, type_rule, word_of,
 };
 
-#[derive(Drop)]
+#[derive(Clone, Copy)]
 pub enum Type {
     Null,
     Boolean,
@@ -27,7 +27,7 @@ pub enum Judged {
     Broken,
 }
 
-#[derive(Drop)]
+#[derive(Clone, Copy)]
 pub enum Value {
     Null,
     Truth(bool),

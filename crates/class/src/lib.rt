@@ -28,7 +28,7 @@ pub fn lub(a: u16, b: u16) -> u16
 }
 
 // A class is fixed, or it has a bound that dominates it.
-#[derive(Drop)]
+#[derive(Clone, Copy)]
 pub enum Info {
     Fixed(u16),
     Bound(u16),

@@ -22,7 +22,7 @@ pub use select::whole;
 pub use totals::fold_type;
 
 // What a walk is over: the catalogue's records and tables, the view's records, and the class of the view's constants.
-#[derive(Drop)]
+#[derive(Clone, Copy)]
 pub struct Files {
     pub nc: usize,
     pub tables: usize,
@@ -32,7 +32,7 @@ pub struct Files {
 
 // A value's type, what is known of its class, the next record, and how many records its data and its class take.
 // The numbers fit 16 bits: a view has at most 1,024 records, and sizes stop just above 8,190.
-#[derive(Drop)]
+#[derive(Clone, Copy)]
 pub struct Known {
     pub ty: cell::Type,
     pub info: class::Info,
@@ -42,7 +42,7 @@ pub struct Known {
 }
 
 // What is asked of a block: something of its kept rows (EXISTS, COUNT), or one of their values (VALUE, MAX, MIN).
-#[derive(Drop)]
+#[derive(Clone, Copy)]
 pub enum Asked {
     Rows(view::Fold),
     Values(view::Pick),
@@ -55,7 +55,7 @@ pub struct Weighed {
     pub size: u16,
 }
 
-#[derive(Drop)]
+#[derive(Clone, Copy)]
 pub enum Typed {
     Is(Known),
     Refused(u16, u16),

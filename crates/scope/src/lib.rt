@@ -23,14 +23,14 @@ use words::{info_from, table_in, type_from};
 
 // One entry, eight bytes: a block's tables, 1 to 4, by the numbers of their records in the catalogue; or, where there are none,
 // a local: its name, its type and what is known of its class, as specs/Words has them.
-#[derive(Drop)]
+#[derive(Clone, Copy)]
 pub struct Scope {
     pub words: [u16; 4],
 }
 
 // What a name finds. A column: scopes outward, table in block, column, its type, what is known of its cells' class and of its row's.
 // A local: scopes outward, its type, what is known of its class.
-#[derive(Drop)]
+#[derive(Clone, Copy)]
 pub enum Found {
     Column(u16, u16, u16, cell::Type, class::Info, class::Info),
     Local(u16, cell::Type, class::Info),

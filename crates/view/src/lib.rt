@@ -10,14 +10,14 @@ ghost use Rattle.view.specs.Record.{rec, when, bare, op_only, a_only, counts, co
 ghost use Rattle.view.specs.Parse.{enter, many, parse_table, parse_block, parse_value, parse_root, met_of, walk_of, check_of};
 
 // What a block without a value says of its kept rows: whether there is one (EXISTS), or how many, in so many digits (COUNT).
-#[derive(Drop)]
+#[derive(Clone, Copy)]
 pub enum Fold {
     Any,
     Count(u8),
 }
 
 // Which of the kept rows' values a block gives: the only one (VALUE), the greatest (MAX), the least (MIN).
-#[derive(Drop)]
+#[derive(Clone, Copy)]
 pub enum Pick {
     Only,
     Greatest,
@@ -25,7 +25,7 @@ pub enum Pick {
 }
 
 // What a record says: its kind with the fields that the kind has. Bad: an unknown kind or op, or a field out of rule.
-#[derive(Drop)]
+#[derive(Clone, Copy)]
 pub enum Node {
     Const(cell::Type, cell::Value),
     Binop(u8),

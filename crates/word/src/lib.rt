@@ -1,5 +1,7 @@
 // Numbers, records and headers in bytes, lowest byte first: read at a place, and written at a place of a lent buffer.
 // A writer returns the place after what it wrote.
+#![tactic(auto)]
+
 ghost use Rattle.std.specs.Prelude.{◌≡◌, ◌+◌, ◌*◌, ◌≤◌, ◌<◌, length};
 ghost use Rattle.word.specs.Bytes.{u16_at, u32_at, i32_at, signed32, bits32, le16, le32};
 ghost use Rattle.word.specs.Buffer.{Wrote};
