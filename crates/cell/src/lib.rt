@@ -1,5 +1,7 @@
 // Types and values of cells, the type rules, and the operators on values.
 // Every public function is total; an operand of a wrong kind gives the outcome Stuck.
+#![tactic(auto)]
+
 mod numbers;
 mod operators;
 mod types;

@@ -132,6 +132,7 @@ lub_iff a b c = (
 -- ---- the lub of a list
 
 pub all_bound : (x : ℕ) (xs : List ℕ) → Memᴰ x xs → Dominates (lub_all xs) x
+all_bound x [] x'' = elim x'' [ ]
 all_bound x (y ∷ xs) (Memᴰ.head e) = rw e (lub_left y (lub_all xs))
 all_bound x (y ∷ xs) (Memᴰ.tail m) =
     dom_trans _ (lub_all xs) x (lub_right y (lub_all xs)) (all_bound x xs m)

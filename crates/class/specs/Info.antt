@@ -1,6 +1,6 @@
 -- What is known of a class before a row is read: it is fixed, or it has a bound that dominates it. Joins and choices of such.
 -- Assumes nothing.
-use Rattle.std.specs.Prelude.{ℕ, ◌≡◌, Bool, true, false, cond, List, [], ◌∷◌, eqb}
+use Rattle.std.specs.Prelude.{ℕ, ◌≡◌, Bool, false, cond, List, [], ◌∷◌, eqb}
 use Rattle.class.specs.Class.{Dominates, dominatesb, lub_of}
 use Rattle.class.specs.declared.Info.{Info}
 use Rattle.class.specs.declared.Info.TheVariants.{Fixed, Bound}

@@ -1,5 +1,7 @@
 // Classes: a 16-bit word is a level (word div 4096) and twelve marks (the low twelve bits). What is known of a class before a row is read.
 // Assumes nothing.
+#![tactic(auto)]
+
 ghost use Rattle.std.specs.Prelude.{◌≡◌};
 ghost use Rattle.class.specs.Class.{dominatesb, lub_of};
 ghost use Rattle.class.specs.Info.{info_by, bound_of, join_i, choice_i, info_test};

@@ -1,6 +1,6 @@
 -- Numbers in bytes, lowest byte first. A slice is the list of its bytes; a byte past the end counts as 0.
 -- Assumes nothing.
-use Rattle.std.specs.Prelude.{ℕ, ◌+◌, ◌-◌, ◌*◌, ◌/◌, ◌%◌, Bool, true, false, cond, ◌&&◌, List, [], ◌∷◌, ltb, leb, get_or, ℤ, pos, negsuc}
+use Rattle.std.specs.Prelude.{ℕ, ◌+◌, ◌-◌, ◌*◌, ◌/◌, ◌%◌, Bool, cond, ◌&&◌, List, [], ◌∷◌, ltb, leb, get_or, ℤ, pos, negsuc}
 
 -- the 16 bits at a place
 abbrev pub u16_at : List ℕ → ℕ → ℕ
