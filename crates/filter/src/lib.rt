@@ -10,7 +10,7 @@ ghost use Rattle.filter.specs.Jobs.{tree_fits, tree_of, Translated, Answered};
 ghost use Rattle.resolve.specs.Sizes.{sums_of};
 ghost use Rattle.label.specs.Left.{LeftView};
 ghost use Rattle.label.specs.Whole.{select_at, tree_at, Viewed};
-ghost use Rattle.filter.specs.Steps.{denied, taken, TreeGiven, BothGiven, word_of, TranslatedWord, AnsweredWord};
+ghost use Rattle.filter.specs.Steps.{denied, taken, TreeGiven, BothGiven};
 
 // Number, place, and count of records or rows: 0, 0, n if accepted; a refusal's count is 0.
 #[derive(Drop)]
@@ -149,44 +149,4 @@ pub fn answer(
             }
         }
     }
-}
-
-// A result as one number: number + 65536 × place + 2^32 × count.
-fn word_of(r: Result) -> u64
-    ensures { result ≡ word_of r }
-{
-    let number = r.number;
-    let place = r.place;
-    let count = r.count;
-    (number as u64) + 65536 * ((place % 65536) as u64) + 4294967296 * ((count % 65536) as u64)
-}
-
-#[unsafe(no_mangle)]
-pub extern "C" fn wayrinka_translate(
-    cat: &[u8],
-    view: &[u8],
-    k: u16,
-    q: u16,
-    tree: &mut [u8],
-) -> u64
-    ensures { TranslatedWord cat.now view.now k q tree.old tree.new result }
-{
-    let r = translate(cat, view, k, q, tree);
-    word_of(r)
-}
-
-#[unsafe(no_mangle)]
-pub extern "C" fn wayrinka_answer(
-    cat: &[u8],
-    view: &[u8],
-    k: u16,
-    q: u16,
-    tree: &mut [u8],
-    store: &[u8],
-    out: &mut [u8],
-) -> u64
-    ensures { AnsweredWord cat.now view.now k q store.now tree.old out.old tree.new out.new result }
-{
-    let r = answer(cat, view, k, q, tree, store, out);
-    word_of(r)
 }

@@ -1,0 +1,46 @@
+// The C interface of the two jobs: Translate and Answer by pointers and lengths, the result in one number. include/wayrinka.h declares both.
+// The definitions are in the specs/ of filter: Steps has what each number stands for.
+#![tactic(auto)]
+
+ghost use Rattle.std.specs.Prelude.{◌≡◌};
+ghost use Rattle.filter.specs.Steps.{word_of, TranslatedWord, AnsweredWord};
+
+// A result as one number: number + 65536 × place + 2^32 × count.
+fn word_of(r: filter::Result) -> u64
+    ensures { result ≡ word_of r }
+{
+    let number = r.number;
+    let place = r.place;
+    let count = r.count;
+    (number as u64) + 65536 * ((place % 65536) as u64) + 4294967296 * ((count % 65536) as u64)
+}
+
+#[unsafe(no_mangle)]
+pub extern "C" fn wayrinka_translate(
+    cat: &[u8],
+    view: &[u8],
+    k: u16,
+    q: u16,
+    tree: &mut [u8],
+) -> u64
+    ensures { TranslatedWord cat.now view.now k q tree.old tree.new result }
+{
+    let r = filter::translate(cat, view, k, q, tree);
+    word_of(r)
+}
+
+#[unsafe(no_mangle)]
+pub extern "C" fn wayrinka_answer(
+    cat: &[u8],
+    view: &[u8],
+    k: u16,
+    q: u16,
+    tree: &mut [u8],
+    store: &[u8],
+    out: &mut [u8],
+) -> u64
+    ensures { AnsweredWord cat.now view.now k q store.now tree.old out.old tree.new out.new result }
+{
+    let r = filter::answer(cat, view, k, q, tree, store, out);
+    word_of(r)
+}
