@@ -1,6 +1,6 @@
 -- What is wrong with a catalogue (21 to 24): for each record its fault, and the lowest record that has one.
 -- Assumes nothing.
-use Rattle.std.specs.Prelude.{ℕ, zero, suc, ◌+◌, ◌-◌, ◌*◌, ◌/◌, ◌%◌, Bool, true, false, cond, ◌&&◌, ◌||◌, List, length, eqb, ltb, leb}
+use Rattle.std.specs.Prelude.{ℕ, zero, suc, ◌+◌, ◌-◌, ◌*◌, ◌/◌, ◌%◌, Bool, true, false, cond, ◌&&◌, List, length, eqb, ltb, leb}
 use Rattle.word.specs.Bytes.{within}
 use Rattle.word.specs.Header.{drc, headed, count_at}
 use Rattle.word.specs.Record.{kind_at, op_at, a_at, c_at}

@@ -1,6 +1,6 @@
 -- Where the tables stand: the numbers of their records, found once and held in an array of 32.
 -- Assumes nothing.
-use Rattle.std.specs.Prelude.{ℕ, zero, suc, ◌+◌, ◌≤◌, ◌≡◌, Bool, true, false, cond, List, [], ◌∷◌, eqb, ltb, length, get_or, take, replicate}
+use Rattle.std.specs.Prelude.{ℕ, zero, suc, ◌+◌, ◌≤◌, ◌≡◌, cond, List, [], ◌∷◌, eqb, ltb, length, get_or, take, replicate}
 use Rattle.word.specs.Buffer.{put}
 use Rattle.word.specs.Header.{count_at}
 use Rattle.word.specs.Record.{kind_at}

@@ -1,6 +1,6 @@
 -- What a catalogue says: from its bytes to its tables with their columns. Total: what the check refuses has a reading too.
 -- Assumes nothing.
-use Rattle.std.specs.Prelude.{ℕ, zero, suc, ◌+◌, ◌-◌, ◌/◌, ◌%◌, Bool, true, false, cond, List, [], ◌∷◌, eqb}
+use Rattle.std.specs.Prelude.{ℕ, zero, suc, ◌+◌, ◌-◌, ◌/◌, ◌%◌, cond, List, [], ◌∷◌, eqb}
 use Rattle.word.specs.Header.{count_at}
 use Rattle.word.specs.Record.{kind_at, op_at, a_at, b_at, c_at}
 use Rattle.class.specs.Info.{info_by}

@@ -1,5 +1,7 @@
 // The check of a catalogue for any bytes, and the look-ups that the rest needs.
 // The definitions are in specs/: Fault has the check, Tables what a catalogue says, Starts where its tables stand.
+#![tactic(auto)]
+
 mod lookup;
 
 ghost use Rattle.std.specs.Prelude.{◌≡◌, ℕ, ◌+◌, ◌-◌, ◌*◌, ◌≤◌, ◌<◌, max, length};

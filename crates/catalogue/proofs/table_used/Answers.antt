@@ -1,0 +1,13 @@
+-- `catalogue::table_used` meets its contract. The loop goes back from record i: what is left of the records before it decides.
+-- Assumes nothing.
+use Rattle.catalogue.proofs.Laws.{looks}
+use Rattle.catalogue.proofs.table_used.Goals as goal
+
+pub returns-then-kind-a : goal.returns-then-kind-a
+returns-then-kind-a c = search looks
+
+pub loop-j-preserved : goal.loop-j-preserved
+loop-j-preserved c = search looks
+
+pub returns : goal.returns
+returns c = search looks
