@@ -5,7 +5,6 @@ pub mod Constants
 pub mod Forms
 pub mod Induction
 pub mod Laws
-pub mod Made
 pub mod Nodes
 pub mod Read
 pub mod Readers

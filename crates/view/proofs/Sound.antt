@@ -1,7 +1,7 @@
 -- What a record says that is known to keep its rule: one law for each way out of the code that doesn't test it.
 -- Assumes nothing.
 use Prim.Native.Nat.{ℕ, ◌+◌, ◌*◌, ◌/◌, ◌%◌, ◌≤◌, ◌<◌}
-use mathlib.Core.Path.{◌≡◌, refl, sym, ap, ◌∙◌}
+use mathlib.Core.Path.{◌≡◌, refl, ap, ◌∙◌}
 use mathlib.Core.List.{List}
 use mathlib.Core.Bool.{Bool, true, false, ◌&&◌}
 use native.Mathlib.Omega.{arith}
@@ -9,7 +9,7 @@ use borrow.Author.Rules.{rules}
 use lib.Dec.{eqb, leb}
 use lib.IntN.{ℤ}
 use Rattle.word.specs.Bytes.{signed32, within}
-use Rattle.word.specs.Record.{kind_at, op_at, a_at, b_at, c_at, rec_at}
+use Rattle.word.specs.Record.{kind_at, op_at, a_at, b_at, c_at}
 use Rattle.word.specs.declared.Rec.{Rec}
 use Rattle.cell.specs.declared.Type.TheVariants as T
 use Rattle.cell.specs.declared.Value.TheVariants as X
@@ -19,7 +19,7 @@ use Rattle.view.specs.Record.{rec, when, bare, op_only, a_only, counts, const_of
 use Rattle.view.specs.declared.Node.{Node}
 use Rattle.view.specs.declared.Fold.TheVariants as fold
 use Rattle.view.specs.declared.Pick.TheVariants as pick
-use Rattle.view.specs.declared.Node.TheVariants.{Const, Binop, Not, If, Exists, Single, Table, Select, Col, Classof, Let, Bad}
+use Rattle.view.specs.declared.Node.TheVariants.{Const, Binop, Not, If, Exists, Single, Table, Select, Col, Classof, Let}
 use Rattle.view.proofs.Nodes.{const_null, const_truth, const_fixed, const_time, const_interval, const_class, node_const, node_binop, node_not, node_if, node_exists, node_single, node_table, node_select, node_col, node_classof, node_let, node_count, node_greatest, node_least, node_here}
 
 -- a node that may stand in a value's place is no bad one

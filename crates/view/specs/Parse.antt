@@ -1,6 +1,6 @@
 -- The parser of a view (1 to 5): from its bytes to its syntax tree, or to the refusal's number and place.
 -- Records in order, 3 before 4 before 5 at one record; after the root's end only 4; a tree that ends early is 4 at n. Assumes nothing.
-use Rattle.std.specs.Prelude.{ℕ, zero, suc, ◌+◌, ◌*◌, Bool, true, false, cond, ◌&&◌, List, [], ◌∷◌, length, eqb, ltb}
+use Rattle.std.specs.Prelude.{ℕ, zero, suc, ◌+◌, ◌*◌, cond, ◌&&◌, List, [], ◌∷◌, length, eqb, ltb}
 use Rattle.word.specs.Bytes.{within}
 use Rattle.word.specs.Header.{drq, headed, count_at}
 use Rattle.view.specs.Record.{node_at, slot_of}

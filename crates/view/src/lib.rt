@@ -1,5 +1,7 @@
 // The structural check of a view: its records stand in prefix order, and are walked once.
 // The definitions are in specs/: Record says what a record means, Parse what a view is.
+#![tactic(auto)]
+
 mod reader;
 
 ghost use Rattle.std.specs.Prelude.{◌≡◌, cond, ◌&&◌, ◌+◌, ◌*◌, ◌^◌, ◌≤◌, ◌<◌, length, nat_abs};
