@@ -1,5 +1,7 @@
 // The check of a store over a catalogue, for any bytes, and where a row and a cell stand.
 // The definitions are in specs/: Layout has the check, Rows what a store says.
+#![tactic(auto)]
+
 ghost use Rattle.std.specs.Prelude.{◌≡◌, ◌+◌, ◌-◌, ◌*◌, ◌^◌, ◌≤◌, ◌<◌, get_or};
 ghost use Rattle.word.specs.Bytes.{u16_at, u32_at};
 ghost use Rattle.word.specs.Record.{kind_at, op_at, b_at, c_at};
