@@ -4,8 +4,6 @@ pub mod Locals
 pub mod Hits
 pub mod Columns
 pub mod Search
-pub mod Lending
-pub mod Element
 pub mod Pushes
 pub mod Opening
 pub mod Block

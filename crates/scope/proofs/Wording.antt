@@ -1,13 +1,13 @@
 -- The table held as words: what is put into a word is read out of it again, and a word written is an entry written.
 -- Assumes nothing.
-use Prim.Native.Nat.{ℕ, zero, suc, ◌+◌, ◌*◌, ◌/◌, ◌%◌, ◌<◌, ◌≤◌}
+use Prim.Native.Nat.{ℕ, zero, suc, ◌+◌, ◌*◌, ◌/◌, ◌%◌, ◌<◌}
 use mathlib.Core.Path.{◌≡◌, refl, sym, ap, ap₂, ◌∙◌}
-use mathlib.Core.List.{List, [], ◌∷◌, map}
+use mathlib.Core.List.{List, [], ◌∷◌}
 use native.Mathlib.Omega.{arith}
 use native.Mathlib.Decide.{dec_lt}
 use lib.ListN.{length, get_or, set}
 use lib.Seq.{get_or-set_same, get_or-set_other}
-use Rattle.scope.specs.Held.{word_by, numbers_in, entry_word, entry_in, entries_in}
+use Rattle.scope.specs.Held.{word_by, numbers_in, entry_in, entries_in}
 use Rattle.scope.specs.Table.{blank}
 use Rattle.scope.specs.declared.Scope.{Scope}
 

@@ -1,5 +1,7 @@
 // The open scopes in a small table, one entry for each block and each LET body: push an entry, and find a name.
 // The definitions are in specs/: Scopes has the rule of names, Table what an entry says, Blocks a block's tables.
+#![tactic(auto)]
+
 mod entry;
 mod held;
 mod lent;
