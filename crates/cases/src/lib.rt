@@ -1,10 +1,13 @@
-// Cases on standard input: a case's opening and its bytes, the fill of a lent buffer and its digest.
+// Cases on an input: a case's opening and its bytes, the fill of a lent buffer and its digest.
 // The definitions are in specs/: Opening says what stands where, Digest what a buffer is filled with and comes to.
+#![tactic(auto)]
+
 ghost use Rattle.std.specs.Prelude.{◌≡◌, ◌+◌, ◌*◌, ◌%◌, ◌≤◌, ◌<◌, length};
-ghost use Rattle.io.specs.Counts.{IsPrefixLen};
 ghost use Rattle.word.specs.Bytes.{u32_at};
 ghost use Rattle.cases.specs.Opening.{opening_of};
 ghost use Rattle.cases.specs.Digest.{digest_of, digest_step, pattern};
+
+use std::io::Read;
 
 // A case: 1 Translate, 2 Answer; k and q; the lengths of the lent buffers and of the three files.
 #[derive(Clone, Copy)]
@@ -81,12 +84,13 @@ pub fn lent() -> [u8; 70000]
     [0; 70000]
 }
 
-// Reads n bytes of standard input to the start of a buffer, and answers how many came; none where the buffer is shorter.
-pub fn load(buf: &mut [u8], n: usize) -> usize
-    ensures { IsPrefixLen result buf.new }
+// Reads n bytes of an input to the start of a buffer, and answers how many came; none where the buffer is shorter.
+pub fn load<R: Read>(from: &mut R, buf: &mut [u8], n: usize) -> usize
+    ensures count { result ≤ length buf.new }
+    ensures same_length { length buf.new ≡ length buf.old }
 {
     if n <= buf.len() {
-        io::read_full(0, &mut buf[..n])
+        lines::read_full(from, &mut buf[..n])
     } else {
         0
     }

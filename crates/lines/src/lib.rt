@@ -1,9 +1,17 @@
-// The lines of a text, the numbers and the files that they name, and numbers, spaces and line ends on standard output.
+// The lines of a text, the numbers and the files that they name, and numbers, spaces and line ends on a writer.
 // The definitions are in specs/: Text says what a line and a number are.
+//
+// A read that fails counts as the end of its input. A write that fails is the error that a function here answers, and the
+// only one; what was written before it stays written.
+#![tactic(auto)]
+
 ghost use Rattle.std.specs.Prelude.{◌≡◌, ◌+◌, ◌-◌, ◌*◌, ◌≤◌, ◌<◌, length, nat_abs};
-ghost use Rattle.io.specs.Counts.{IsPrefixLen};
 ghost use Rattle.word.specs.Bytes.{signed32};
 ghost use Rattle.lines.specs.Text.{line_end, line_start, line_close, is_digit, line_text, number_of, Within};
+
+use std::io::{self, Read, Write};
+use std::rt::Files;
+use std::{fs, str};
 
 // Where a line stands in a text: from start to end, without its line end.
 #[derive(Drop)]
@@ -128,33 +136,51 @@ pub fn number_on(text: &[u8], j: usize) -> Number
     read_number(&text[start..end])
 }
 
-// Reads the file of a name to the start of a buffer, as far as it fits, and answers how many bytes came; none from a file
-// that can't be opened.
-fn load(path: &[u8], buf: &mut [u8]) -> usize
-    ensures { IsPrefixLen result buf.new }
+// Reads to the start of a buffer until it is full, the input ends or a read fails, and answers how many bytes came.
+pub fn read_full<R: Read>(from: &mut R, buf: &mut [u8]) -> usize
+    ensures count { result ≤ length buf.new }
+    ensures same_length { length buf.new ≡ length buf.old }
 {
-    let fd = os::open_read(path);
-    if fd < 0 {
-        return 0;
+    let mut done: usize = 0;
+    while done < buf.len() {
+        match from.read(&mut buf[done..]) {
+            Ok(0) => return done,
+            Ok(n) => done += n,
+            Err(_) => return done,
+        }
     }
-    let n = io::read_full(fd, buf);
-    libc::close(fd);
-    n
+    done
+}
+
+// Reads the file of a name to the start of a buffer, as far as it fits, and answers how many bytes came; none from a file
+// that can't be opened. A name that is no UTF-8 text can't be.
+fn load<R: Files>(rt: &R, path: &[u8], buf: &mut [u8]) -> usize
+    ensures count { result ≤ length buf.new }
+    ensures same_length { length buf.new ≡ length buf.old }
+{
+    let Ok(name) = str::from_utf8(path) else {
+        return 0;
+    };
+    match fs::open(rt, name) {
+        Ok(mut file) => read_full(&mut file, buf),
+        Err(_) => 0,
+    }
 }
 
 // The same for the file that line number j names.
-pub fn load_on(text: &[u8], j: usize, buf: &mut [u8]) -> usize
-    ensures { IsPrefixLen result buf.new }
+pub fn load_on<R: Files>(rt: &R, text: &[u8], j: usize, buf: &mut [u8]) -> usize
+    ensures count { result ≤ length buf.new }
+    ensures same_length { length buf.new ≡ length buf.old }
 {
     let l = find_line(text, j);
     let start = l.start;
     let end = l.end;
-    load(&text[start..end], buf)
+    load(rt, &text[start..end], buf)
 }
 
 // Writes a number.
-pub fn print_number(n: u64) {
-    io::print_decimal(1, n);
+pub fn print_number<W: Write>(out: &mut W, n: u64) -> io::Result<()> {
+    write!(out, "{n}")
 }
 
 fn wider(n: u32) -> u64
@@ -175,19 +201,19 @@ fn magnitude(n: u32) -> u32
 }
 
 // Writes the signed number that 32 bits say.
-pub fn print_signed(n: u32) {
+pub fn print_signed<W: Write>(out: &mut W, n: u32) -> io::Result<()> {
     if 2147483648 <= n {
-        io::write_all(1, &[b'-']);
+        out.write_all(b"-")?;
     }
-    io::print_decimal(1, wider(magnitude(n)));
+    print_number(out, wider(magnitude(n)))
 }
 
 // Writes a space.
-pub fn space() {
-    io::write_all(1, &[b' ']);
+pub fn space<W: Write>(out: &mut W) -> io::Result<()> {
+    out.write_all(b" ")
 }
 
 // Writes a line end.
-pub fn end_line() {
-    io::write_all(1, &[b'\n']);
+pub fn end_line<W: Write>(out: &mut W) -> io::Result<()> {
+    out.write_all(b"\n")
 }

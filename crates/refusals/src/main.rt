@@ -1,6 +1,9 @@
 // Runs the checks on the cases of standard input, and writes the number and the place of each refusal; 0 0 where there is none.
 // Order: catalogue, store (Answer only), view: its structure, then its names and types. It ends whatever the input is: the cases are counted.
+#![tactic(auto)]
+
 use cases::{Case, Opening};
+use std::io::{self, Read, Write};
 
 // A refusal: number and place; number 0 for none.
 #[derive(Drop)]
@@ -62,40 +65,46 @@ fn long(x: usize) -> u64 {
     x as u64
 }
 
-fn show(f: Found) {
-    lines::print_number(wide(f.number));
-    lines::space();
-    lines::print_number(long(f.place));
-    lines::end_line();
+fn show<W: Write>(to: &mut W, f: Found) -> io::Result<()> {
+    lines::print_number(to, wide(f.number))?;
+    lines::space(to)?;
+    lines::print_number(to, long(f.place))?;
+    lines::end_line(to)
 }
 
 // Reads the files of a case and shows its refusal.
-fn run(case: Case) {
+fn run<R: Read, W: Write>(from: &mut R, to: &mut W, case: Case) -> io::Result<()> {
     let mut cat = cases::file();
     let mut view = cases::file();
     let mut store = cases::file();
-    let c = cases::load(&mut cat, case.cat);
-    let v = cases::load(&mut view, case.view);
-    let s = cases::load(&mut store, case.store);
-    show(first(case.job, case.k, &cat[..c], &view[..v], &store[..s]));
+    let c = cases::load(from, &mut cat, case.cat);
+    let v = cases::load(from, &mut view, case.view);
+    let s = cases::load(from, &mut store, case.store);
+    show(
+        to,
+        first(case.job, case.k, &cat[..c], &view[..v], &store[..s]),
+    )
 }
 
 // One case; whether there was one.
-fn turn() -> bool {
+fn turn<R: Read, W: Write>(from: &mut R, to: &mut W) -> io::Result<bool> {
     let mut head = [0u8; 26];
-    let n = io::read_full(0, &mut head);
+    let n = lines::read_full(from, &mut head);
     match cases::opening_of(&head[..n]) {
         Opening::One(case) => {
-            run(case);
-            true
+            run(from, to, case)?;
+            Ok(true)
         }
-        Opening::End => false,
+        Opening::End => Ok(false),
     }
 }
 
-fn main() {
+fn main(rt: HostRuntime) -> io::Result<()> {
+    let mut from = rt.reader();
+    let mut to = io::writer(&rt);
     let mut turns: u32 = 100000;
-    while turns > 0 && turn() {
+    while turns > 0 && turn(&mut from, &mut to)? {
         turns -= 1;
     }
+    Ok(())
 }

@@ -3,9 +3,13 @@
 //
 // A file that can't be opened counts as one of no bytes, so it is refused as such: 21 0, 1 0. Of a file that is longer than
 // any that is accepted, the bytes that fit the buffer are refused as the whole file is.
+#![tactic(auto)]
+
 ghost use Rattle.std.specs.Prelude.{◌+◌, ◌*◌, ◌≤◌, length};
 
 use lines::Number;
+use std::io::{self, Write};
+use std::rt::Files;
 
 fn wide(x: u16) -> u64 {
     x as u64
@@ -20,76 +24,72 @@ fn long(x: usize) -> u64 {
 }
 
 // Writes record i of a tree.
-fn record(tree: &[u8], i: usize)
+fn record<W: Write>(to: &mut W, tree: &[u8], i: usize) -> io::Result<()>
     requires { 8 + 8 * i + 8 ≤ length tree.now }
 {
     let r = word::rec_at(tree, i);
-    lines::print_number(small(r.kind));
-    lines::space();
-    lines::print_number(small(r.op));
-    lines::space();
-    lines::print_number(wide(r.a));
-    lines::space();
-    lines::print_number(wide(r.b));
-    lines::space();
-    lines::print_number(wide(r.c));
-    lines::end_line();
+    lines::print_number(to, small(r.kind))?;
+    lines::space(to)?;
+    lines::print_number(to, small(r.op))?;
+    lines::space(to)?;
+    lines::print_number(to, wide(r.a))?;
+    lines::space(to)?;
+    lines::print_number(to, wide(r.b))?;
+    lines::space(to)?;
+    lines::print_number(to, wide(r.c))?;
+    lines::end_line(to)
 }
 
 // Writes so many records of a tree.
-fn records(tree: &[u8], count: usize) {
+fn records<W: Write>(to: &mut W, tree: &[u8], count: usize) -> io::Result<()> {
     let mut i: usize = 0;
     while i < count {
         if tree.len() / 8 < i + 2 {
-            return;
+            return Ok(());
         }
-        record(tree, i);
+        record(to, tree, i)?;
         i += 1;
     }
+    Ok(())
 }
 
-fn refusal(number: u16, place: usize) {
-    lines::print_number(wide(number));
-    lines::space();
-    lines::print_number(long(place));
-    lines::end_line();
+fn refusal<W: Write>(to: &mut W, number: u16, place: usize) -> io::Result<()> {
+    lines::print_number(to, wide(number))?;
+    lines::space(to)?;
+    lines::print_number(to, long(place))?;
+    lines::end_line(to)
 }
 
-fn show(text: &[u8], k: u16, q: u16) {
-    let mut cat = io::large_buffer();
-    let mut view = io::large_buffer();
-    let mut tree = io::large_buffer();
-    let c = lines::load_on(text, 0, &mut cat);
-    let v = lines::load_on(text, 1, &mut view);
+fn show<R: Files, W: Write>(rt: &R, to: &mut W, text: &[u8], k: u16, q: u16) -> io::Result<()> {
+    let mut cat = [0u8; 65536];
+    let mut view = [0u8; 65536];
+    let mut tree = [0u8; 65536];
+    let c = lines::load_on(rt, text, 0, &mut cat);
+    let v = lines::load_on(rt, text, 1, &mut view);
     let r = filter::translate(&cat[..c], &view[..v], k, q, &mut tree);
     if r.number == 0 {
-        records(&tree, r.count);
+        records(to, &tree, r.count)
     } else {
-        refusal(r.number, r.place);
+        refusal(to, r.number, r.place)
     }
 }
 
-fn bad() {
-    io::write_all(
-        1,
-        b"k and q: a number from 0 to 65535 each, on lines 3 and 4\n",
-    );
+fn bad<W: Write>(to: &mut W) -> io::Result<()> {
+    to.write_all(b"k and q: a number from 0 to 65535 each, on lines 3 and 4\n")
 }
 
-fn run(text: &[u8]) {
+fn run<R: Files, W: Write>(rt: &R, to: &mut W, text: &[u8]) -> io::Result<()> {
     let Number::Is(k) = lines::number_on(text, 2) else {
-        bad();
-        return;
+        return bad(to);
     };
     let Number::Is(q) = lines::number_on(text, 3) else {
-        bad();
-        return;
+        return bad(to);
     };
-    show(text, k, q);
+    show(rt, to, text, k, q)
 }
 
-fn main() {
-    let mut text = io::large_buffer();
-    let n = io::read_full(0, &mut text);
-    run(&text[..n]);
+fn main(rt: HostRuntime) -> io::Result<()> {
+    let mut text = [0u8; 65536];
+    let n = lines::read_full(&mut rt.reader(), &mut text);
+    run(&rt, &mut io::writer(&rt), &text[..n])
 }
