@@ -1,20 +1,19 @@
 -- How a fill and a digest go on by one byte, what an opening says, and how many bytes came, in the form in which the functions meet them.
 -- Assumes nothing.
-use Prim.Native.Nat.{ℕ, zero, suc, ◌+◌, ◌*◌, ◌%◌, ◌≤◌, ◌<◌}
+use Prim.Native.Nat.{ℕ, ◌+◌, ◌%◌, ◌≤◌, ◌<◌}
 use mathlib.Core.Path.{◌≡◌, refl, sym, ◌∙◌}
-use mathlib.Core.List.{List, [], ◌∷◌, ◌++◌}
+use mathlib.Core.List.{List, ◌++◌}
 use native.Mathlib.Omega.{arith}
 use native.Mathlib.Numerals.{add-one}
 use borrow.Author.Rules.{rules}
 use borrow.Author.Tests.{lt-ltb, le-ltb}
 use lib.ListN.{length, get_or, take, drop, set, length-set, length-append, drop_of_length-le}
 use lib.Seq.{drop-cons, take-suc-set, take_all, length-take-le}
-use Rattle.io.specs.Counts.{IsPrefixLen}
+use Rattle.lines.specs.Counts.{IsPrefixLen}
 use Rattle.word.specs.Bytes.{u16_at, u32_at}
 use Rattle.cases.specs.Opening.{case_of, opening_of}
 use Rattle.cases.specs.Digest.{digest_step, digest_from, digest_of, pattern}
 use Rattle.cases.specs.declared.Case.{Case}
-use Rattle.cases.specs.declared.Opening.{Opening}
 use Rattle.cases.specs.declared.Opening.TheVariants.{One, End}
 
 -- ---- the digest

@@ -3,6 +3,7 @@
 #![tactic(auto)]
 
 ghost use Rattle.std.specs.Prelude.{◌≡◌, ◌+◌, ◌*◌, ◌%◌, ◌≤◌, ◌<◌, length};
+ghost use Rattle.lines.specs.Counts.{IsPrefixLen};
 ghost use Rattle.word.specs.Bytes.{u32_at};
 ghost use Rattle.cases.specs.Opening.{opening_of};
 ghost use Rattle.cases.specs.Digest.{digest_of, digest_step, pattern};
@@ -86,7 +87,7 @@ pub fn lent() -> [u8; 70000]
 
 // Reads n bytes of an input to the start of a buffer, and answers how many came; none where the buffer is shorter.
 pub fn load<R: Read>(from: &mut R, buf: &mut [u8], n: usize) -> usize
-    ensures count { result ≤ length buf.new }
+    ensures count { IsPrefixLen result buf.new }
     ensures same_length { length buf.new ≡ length buf.old }
 {
     if n <= buf.len() {

@@ -1,12 +1,13 @@
 // The lines of a text, the numbers and the files that they name, and numbers, spaces and line ends on a writer.
-// The definitions are in specs/: Text says what a line and a number are.
+// The definitions are in specs/: Text says what a line and a number are, Counts how many bytes came.
 //
-// A read that fails counts as the end of its input. A write that fails is the error that a function here answers, and the
-// only one; what was written before it stays written.
+// A read that fails counts as the end of its input. A write that fails is the only error that a function here answers; what
+// was written before it stays written.
 #![tactic(auto)]
 
 ghost use Rattle.std.specs.Prelude.{◌≡◌, ◌+◌, ◌-◌, ◌*◌, ◌≤◌, ◌<◌, length, nat_abs};
 ghost use Rattle.word.specs.Bytes.{signed32};
+ghost use Rattle.lines.specs.Counts.{IsPrefixLen};
 ghost use Rattle.lines.specs.Text.{line_end, line_start, line_close, is_digit, line_text, number_of, Within};
 
 use std::io::{self, Read, Write};
@@ -138,7 +139,7 @@ pub fn number_on(text: &[u8], j: usize) -> Number
 
 // Reads to the start of a buffer until it is full, the input ends or a read fails, and answers how many bytes came.
 pub fn read_full<R: Read>(from: &mut R, buf: &mut [u8]) -> usize
-    ensures count { result ≤ length buf.new }
+    ensures count { IsPrefixLen result buf.new }
     ensures same_length { length buf.new ≡ length buf.old }
 {
     let mut done: usize = 0;
@@ -155,7 +156,7 @@ pub fn read_full<R: Read>(from: &mut R, buf: &mut [u8]) -> usize
 // Reads the file of a name to the start of a buffer, as far as it fits, and answers how many bytes came; none from a file
 // that can't be opened. A name that is no UTF-8 text can't be.
 fn load<R: Files>(rt: &R, path: &[u8], buf: &mut [u8]) -> usize
-    ensures count { result ≤ length buf.new }
+    ensures count { IsPrefixLen result buf.new }
     ensures same_length { length buf.new ≡ length buf.old }
 {
     let Ok(name) = str::from_utf8(path) else {
@@ -169,7 +170,7 @@ fn load<R: Files>(rt: &R, path: &[u8], buf: &mut [u8]) -> usize
 
 // The same for the file that line number j names.
 pub fn load_on<R: Files>(rt: &R, text: &[u8], j: usize, buf: &mut [u8]) -> usize
-    ensures count { result ≤ length buf.new }
+    ensures count { IsPrefixLen result buf.new }
     ensures same_length { length buf.new ≡ length buf.old }
 {
     let l = find_line(text, j);
