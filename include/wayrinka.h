@@ -1,4 +1,5 @@
-// The C interface of the labelled view filter, for C and C++: the two functions of `rt staticlib filter`, which writes target/staticlib/libfilter.a.
+// The C interface of the labelled view filter, for C and C++: the two functions of crate filter_c. `compare/library` makes the library,
+// target/staticlib/libfilter.a: it runs `rt lib` in crates/filter_c, which proves the two and writes out/libfilter_c.a, and copies that.
 // Document 01 has the five files and the numbers; docs/PROMISES.md says what is proved of both functions.
 #ifndef WAYRINKA_H
 #define WAYRINKA_H
