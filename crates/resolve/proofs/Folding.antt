@@ -1,7 +1,7 @@
 -- The functions of `totals`: one law for each way out, over what the code has found there.
 -- Assumes nothing.
 use Prim.Native.Nat.{ℕ}
-use mathlib.Core.Path.{◌≡◌, refl, sym, ap, ◌∙◌}
+use mathlib.Core.Path.{◌≡◌}
 use mathlib.Core.Bool.{true, false, ◌&&◌}
 use borrow.Author.Rules.{rules}
 use lib.Dec.{leb}

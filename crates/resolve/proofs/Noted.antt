@@ -5,9 +5,9 @@ use mathlib.Core.Path.{◌≡◌, refl, sym, ap, ap₂, ◌∙◌}
 use mathlib.Core.Bool.{Bool, true, false, cond}
 use mathlib.Core.List.{List, [], ◌∷◌, ◌++◌, map}
 use native.Mathlib.Omega.{arith}
-use lib.ListN.{length, set, length-set, length-append, length-map}
+use lib.ListN.{length, set, length-append, length-map}
 use Rattle.word.specs.Buffer.{put}
-use Rattle.word.proofs.Writing.{put_one, length_put}
+use Rattle.word.proofs.Writing.{put_one}
 use Rattle.class.specs.declared.Info.{Info}
 use Rattle.cell.specs.Types.{digits_of, scale_of, same_type}
 use Rattle.cell.specs.declared.Type.{«Type» as Ty}

@@ -5,9 +5,8 @@ use mathlib.Core.Path.{◌≡◌, sym, ap, ◌∙◌}
 use mathlib.Core.Bool.{false, not}
 use mathlib.Core.List.{List, ◌∷◌, ◌++◌, map}
 use native.Mathlib.Omega.{arith}
-use lib.ListN.{length, set, length-set}
+use lib.ListN.{set}
 use Rattle.word.specs.Buffer.{put}
-use Rattle.word.proofs.Writing.{length_put}
 use Rattle.catalogue.specs.Tables.{Table, TabRef, tables_from}
 use Rattle.view.specs.Ast.{ok}
 use Rattle.view.specs.Ast as ast

@@ -1,6 +1,6 @@
 -- Names and types (6 to 9): the resolved expression and its type, or a refusal. Children left to right, before their parent.
 -- Assumes nothing.
-use Rattle.std.specs.Prelude.{ℕ, Bool, true, false, cond, List, [], ◌∷◌, map, eqb}
+use Rattle.std.specs.Prelude.{ℕ, cond, List, [], ◌∷◌, eqb}
 use Rattle.cell.specs.Res.{Res, stuck, done}
 use Rattle.cell.specs.Types.{kind_of, digits_of, scale_of, binop_type, limb_type, same_type}
 use Rattle.cell.specs.declared.Type.{«Type» as Ty}
@@ -8,7 +8,7 @@ use Rattle.cell.specs.declared.Type.TheVariants as T
 use Rattle.catalogue.specs.Tables.{Table, TabRef}
 use Rattle.view.specs.Ast.{TabName, Exp, Block}
 use Rattle.view.specs.Ast as ast
-use Rattle.scope.specs.Scopes.{Open, block, local, Hit, column, bound, Only, none, one, more, find}
+use Rattle.scope.specs.Scopes.{Open, local, Hit, column, bound, Only, none, one, more, find}
 use Rattle.scope.specs.Blocks.{Tabs, all, missing, tables_named, opened}
 use Rattle.resolve.specs.Expr.{Expr, Select}
 use Rattle.resolve.specs.Expr as expr

@@ -1,5 +1,7 @@
 // Names resolved and types found, in one walk over the records of an accepted view (6 to 9).
 // The definitions are in specs/: Resolve has the rules, Infos and Sizes what is known of a class and of the trees, Typed the walk's answer, Notes what it notes.
+#![tactic(auto)]
+
 mod blocks;
 mod notes;
 mod select;

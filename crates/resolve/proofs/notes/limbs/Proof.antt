@@ -1,7 +1,6 @@
 -- `resolve::notes::limbs` meets its contract: one mark after the other.
 -- Assumes nothing.
 use Rattle.resolve.proofs.Noting.{limbed}
-use mathlib.Core.Path.{◌∙◌}
 use borrow.Author.Rules.{rules}
 use Rattle.resolve.proofs.notes.limbs.Statement.{statement}
 use Rattle.resolve.proofs.notes.limbs.Tie as tie

@@ -1,0 +1,14 @@
+-- `resolve::select::values` meets its contract: what is left of the values comes to what all come to.
+-- Assumes nothing.
+use Prim.Native.Nat.{◌-◌}
+use Rattle.scope.specs.Held.{entries_in}
+use Rattle.resolve.proofs.NotedRoots.{Onward, Ending}
+use Rattle.resolve.proofs.Roots.{Left}
+use mathlib.Core.Path.{◌≡◌}
+use Rattle.resolve.proofs.select.values.Given as goal
+
+abbrev pub invariant-loop-j : goal.invariant-loop-j
+invariant-loop-j l = Left l.cat l.starts l.view l.f (entries_in l.initial.held) l.count l.at l.j l.m l.n × Onward l.cat l.view l.f (entries_in l.initial.held) l.count l.at l.j l.m l.initial.notes l.notes × Ending l.cat l.view l.f (entries_in l.initial.held) l.count l.at l.j l.m l.initial.ends l.ends × (l.held ≡ l.initial.held)
+
+abbrev pub decreases-loop-j : goal.decreases-loop-j
+decreases-loop-j l = l.count - l.j
