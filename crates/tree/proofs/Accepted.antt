@@ -5,7 +5,7 @@ use mathlib.Core.Path.{◌≡◌, refl, sym, ap, ap₂, ◌∙◌, subst}
 use mathlib.Core.Bool.{true}
 use mathlib.Core.List.{List, ◌∷◌}
 use native.Mathlib.Omega.{arith}
-use lib.ListN.{length, get_or, set}
+use lib.ListN.{length, set}
 use Rattle.class.specs.declared.Info.TheVariants.{Fixed}
 use Rattle.cell.specs.Res.{done}
 use Rattle.cell.specs.Types.{digits_of, binop_type}
@@ -24,7 +24,7 @@ use Rattle.view.proofs.Read.{was_read, next_is}
 use Rattle.view.proofs.Says.{exists_few, single_few}
 use Rattle.scope.specs.Scopes.{Open, local, find}
 use Rattle.scope.specs.Words.{type_in}
-use Rattle.scope.specs.Table.{blank, scopes_of, infos_of}
+use Rattle.scope.specs.Table.{scopes_of, infos_of}
 use Rattle.scope.specs.Blocks.{Tabs, all, tables_named, refs_of, opened}
 use Rattle.scope.specs.Entry.{local_scope, opened_as, opened_by}
 use Rattle.scope.specs.declared.Scope.{Scope}

@@ -1,5 +1,7 @@
 // The data tree of an accepted view's values, written in prefix order: a record, then its children.
 // The definitions are in specs/: Tree has trees and their records, Trans the data tree D and the class C, Select the whole tree, Claims the value at a record.
+#![tactic(auto)]
+
 mod known;
 mod noted;
 mod records;

@@ -1,0 +1,13 @@
+-- `tree::records::table_recs` meets its contract. The invariant: what is left of the records comes to all of them.
+-- Assumes nothing.
+use Rattle.tree.proofs.Leaves.{left_room, left_again, left_done}
+use Rattle.tree.proofs.records.table_recs.Goals as goal
+
+pub put_rec-u-requires : goal.put_rec-u-requires
+put_rec-u-requires c = left_room _ _ _ _ _ _ _ c.requires.tabled c.loop-j.invariant _ c.loop-j-test.true c.table_number-k.ensures
+
+pub loop-j-preserved : goal.loop-j-preserved
+loop-j-preserved c = left_again _ _ _ _ _ _ _ c.requires.tabled c.loop-j.invariant _ c.loop-j-test.true c.table_number-k.ensures c.put_rec-u.ensures
+
+pub returns : goal.returns
+returns c = left_done _ _ _ _ _ _ _ c.requires.tabled c.loop-j.invariant c.loop-j-test.false
