@@ -13,7 +13,6 @@ use Rattle.view.specs.Parse as parse
 use Rattle.view.specs.declared.Verdict as views
 use Rattle.view.specs.declared.Verdict.TheVariants.{Records}
 use Rattle.resolve.specs.Claims.{Accepted}
-use Rattle.resolve.specs.declared.Files.{Files}
 
 pub may_resolve : (c ss v : List ℕ) (t n nc k : ℕ) (x : catalogues.Verdict) (y : views.Verdict) → x ≡ fault.check_of c → x ≡ Tables t → y ≡ parse.check_of v → y ≡ Records n → nc ≡ count_at c → ss ≡ starts_array c nc → Accepted c ss v (record { nc = nc; tables = t; n = n; k = k })
 may_resolve c ss v t n nc k x y a b d e h s =
