@@ -1,23 +1,21 @@
 -- From what the walk says of its notes and ends to what SELECT's writer requires.
 -- Assumes nothing.
-use Prim.Native.Nat.{ℕ, zero, suc, ◌+◌, ◌-◌, ◌*◌, ◌/◌, ◌%◌, ◌<◌, ◌≤◌}
+use Prim.Native.Nat.{ℕ, suc, ◌+◌, ◌-◌, ◌*◌, ◌/◌, ◌%◌, ◌<◌, ◌≤◌}
 use mathlib.Core.Path.{◌≡◌, refl, sym, ap, ap₂, ◌∙◌}
 use mathlib.Core.List.{List, [], ◌∷◌, ◌++◌}
 use native.Mathlib.Omega.{arith}
 use lib.ListN.{length, get_or, take, drop, length-append}
 use lib.Seq.{drop-drop, get_or-drop}
-use lib.Seq as seq
-use Rattle.class.specs.Info.{info_by, bound_of}
+use Rattle.class.specs.Info.{bound_of}
 use Rattle.class.specs.declared.Info.{Info}
 use Rattle.class.specs.declared.Info.TheVariants.{Fixed, Bound}
 use Rattle.class.proofs.Infos.{info_by_fixed, info_by_bound}
 use Rattle.resolve.specs.Expr.{Expr}
 use Rattle.resolve.specs.Infos.{class_info}
 use Rattle.resolve.specs.Notes.{notes_of, notes_all, end_note, ends_of}
-use Rattle.tree.specs.Trans.{expr_class, info_of}
 use Rattle.tree.specs.Noted.{notes_in}
 use Rattle.tree.proofs.Infos.{info_of_class}
-use Rattle.label.specs.Left.{end_in, known_in, Left, LeftAll}
+use Rattle.label.specs.Left.{end_in, known_in, LeftAll}
 
 unfoldable pub Small : ℕ → List Info → List Expr → Type 0
 Small k is [] = Unit {0}

@@ -1,14 +1,12 @@
 -- The row classes of a block from the left: what the definition joins is what is joined table after table; their bytes and what is known of them.
 -- Assumes nothing.
-use Prim.Native.Nat.{ℕ, zero, suc, ◌+◌, ◌-◌, ◌≤◌, ◌<◌}
+use Prim.Native.Nat.{ℕ, zero, suc, ◌+◌, ◌-◌, ◌≤◌}
 use mathlib.Core.Path.{◌≡◌, refl, sym, ap, ap₂, ◌∙◌}
 use mathlib.Core.List.{List, [], ◌∷◌, ◌++◌, map}
 use native.Mathlib.Omega.{arith}
 use lib.ListN.{length, get_or, drop}
 use lib.Seq.{get_or-drop, drop-drop}
 use Rattle.word.specs.Record.{rec_bytes}
-use Rattle.word.specs.Buffer.{Wrote, Room}
-use Rattle.word.proofs.Writing.{then, wrote_as, front, after}
 use Rattle.class.specs.Info.{join_i}
 use Rattle.class.specs.declared.Info.{Info}
 use Rattle.class.specs.declared.Info.TheVariants.{Fixed, Bound}
@@ -17,7 +15,7 @@ use Rattle.tree.specs.Tree.{tree_row_class, encode}
 use Rattle.tree.specs.Trans.{Class, as_tree, info_of, by_info, join, joins, join_all, row_classes}
 use Rattle.tree.proofs.Infos.{by_info_lem, join_info}
 use Rattle.label.specs.Rows.{row_item, rows_to}
-use Rattle.label.proofs.Joins.{fixed_bytes, by_bytes, join_turned, join_open, room_as}
+use Rattle.label.proofs.Joins.{fixed_bytes, by_bytes, join_turned, join_open}
 
 drop_head : (is : List Info) (n : ℕ) (x : Info) (xs : List Info) → drop n is ≡ x ∷ xs → get_or is n (Fixed 0) ≡ x
 drop_head is n x xs e =

@@ -15,7 +15,6 @@ use Rattle.class.specs.Info.{bound_of}
 use Rattle.class.specs.declared.Info.{Info}
 use Rattle.class.specs.declared.Info.TheVariants.{Fixed}
 use Rattle.catalogue.specs.Tables.{TabRef}
-use Rattle.view.proofs.Read.{next_is}
 use Rattle.scope.specs.declared.Scope.{Scope}
 use Rattle.resolve.specs.declared.Files.{Files}
 use Rattle.tree.specs.Tree.{Tree, tree_dom, tree_row_class, tree_class, encode}

@@ -18,7 +18,7 @@ use Rattle.resolve.specs.declared.Files.{Files}
 use Rattle.resolve.specs.declared.Sums.{Sums}
 use Rattle.resolve.specs.declared.Verdict.TheVariants as verdict
 use Rattle.tree.specs.Tree.{Tree, SelectTree, size, encode}
-use Rattle.tree.specs.Trans.{Class, fixed, as_tree}
+use Rattle.tree.specs.Trans.{fixed, as_tree}
 use Rattle.tree.specs.Select.{test, translated}
 use Rattle.tree.specs.Claims.{data_at, next_at, Accepted}
 use Rattle.label.specs.Claims.{class_at}

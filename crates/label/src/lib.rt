@@ -1,5 +1,7 @@
 // The class tree of an accepted value, and the whole tree of an accepted view, written in prefix order.
 // The definitions are in specs/: Claims has the class at a record, Rows a block's row classes; crate tree has the trees.
+#![tactic(auto)]
+
 mod rows;
 mod select;
 

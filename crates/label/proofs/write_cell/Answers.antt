@@ -1,0 +1,31 @@
+-- `label::write_cell` meets its contract: one record for each way.
+-- Assumes nothing.
+use mathlib.Core.Path.{sym}
+use Rattle.word.proofs.Laws.{room_rec}
+use Rattle.word.proofs.Writing.{wrote_as}
+use Rattle.label.proofs.Joins.{room_as, cell_column, cell_local, cell_none, cell_many}
+use Rattle.label.proofs.write_cell.Goals as goal
+
+pub put_rec-requires : goal.put_rec-requires
+put_rec-requires c = room_rec _ _ _ _ _ (room_as (cell_column c.in-Column.is) c.requires)
+
+pub put_rec-requires-in-Local : goal.put_rec-requires-in-Local
+put_rec-requires-in-Local c = room_rec _ _ _ _ _ (room_as (cell_local c.in-Local.is) c.requires)
+
+pub put_rec-requires-in-None : goal.put_rec-requires-in-None
+put_rec-requires-in-None c = room_rec _ _ _ _ _ (room_as (cell_none c.in-None.is) c.requires)
+
+pub put_rec-requires-in-Ambiguous : goal.put_rec-requires-in-Ambiguous
+put_rec-requires-in-Ambiguous c = room_rec _ _ _ _ _ (room_as (cell_many c.in-Ambiguous.is) c.requires)
+
+pub returns-in-Column : goal.returns-in-Column
+returns-in-Column c = wrote_as (sym (cell_column c.in-Column.is)) c.put_rec.ensures
+
+pub returns-in-Local : goal.returns-in-Local
+returns-in-Local c = wrote_as (sym (cell_local c.in-Local.is)) c.put_rec-in-Local.ensures
+
+pub returns-in-None : goal.returns-in-None
+returns-in-None c = wrote_as (sym (cell_none c.in-None.is)) c.put_rec-in-None.ensures
+
+pub returns-in-Ambiguous : goal.returns-in-Ambiguous
+returns-in-Ambiguous c = wrote_as (sym (cell_many c.in-Ambiguous.is)) c.put_rec-in-Ambiguous.ensures
