@@ -20,7 +20,7 @@ use Rattle.catalogue.specs.Tables.{Table}
 use Rattle.store.specs.Rows.{Row, All2}
 use Rattle.view.specs.Ast.{Exp}
 use Rattle.view.specs.Ast as ast
-use Rattle.scope.specs.Scopes.{local, column, bound}
+use Rattle.scope.specs.Scopes.{column, bound}
 use Rattle.resolve.specs.Expr.{Expr}
 use Rattle.resolve.specs.Expr as expr
 use Rattle.resolve.specs.Resolve.{good, brought, resolve}

@@ -14,7 +14,6 @@ use Rattle.cell.specs.Types.{in_rule, kind_of}
 use Rattle.cell.specs.Values.{HasTy, ok_null, ok_truth, ok_fixed, ok_time, ok_interval, ok_class, is_null, kind_v, as_fixed, as_time, as_interval}
 use Rattle.cell.specs.Apply.{order_n}
 use Rattle.cell.specs.declared.Type.{«Type» as Ty}
-use Rattle.cell.specs.declared.Type.TheVariants as T
 use Rattle.cell.specs.declared.Value.{Value}
 use Rattle.cell.specs.declared.Value.TheVariants as X
 use Rattle.cell.proofs.Typing.{digits_facts, never}
@@ -69,7 +68,7 @@ better_typed op t {u} {v} h k = either t (is_null v) _ _ h (either t (is_null u)
 best_typed : (op : ℕ) (t : Ty) {u : Value} (vs : List Value) → HasTy t u → All (HasTy t) vs → HasTy t (best_of op u vs)
 unfolding best_of
 best_typed op t [] h ks = h
-best_typed op t (v ∷ vs) h ks = best_typed op t vs (better_typed op t h ks.0) ks.1
+best_typed op t {u = u} (v ∷ vs) h ks = best_typed op t {u = better_of op u v} vs (better_typed op t h ks.0) ks.1
 
 -- ---- the folds
 

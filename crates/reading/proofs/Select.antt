@@ -5,7 +5,6 @@ use mathlib.Core.Path.{◌≡◌, refl, sym, ◌∙◌, subst}
 use mathlib.Core.Bool.{Bool, true, false, cond, ◌&&◌}
 use mathlib.Core.List.{List, [], ◌∷◌, ◌++◌, map, append_assoc, append-nil}
 use Rattle.class.specs.Class.{Dominates, dominatesb, lub_all}
-use Rattle.class.specs.declared.Info.TheVariants.{Fixed}
 use Rattle.class.proofs.Laws.{dom_of, dom_yes, dom_trans}
 use Rattle.cell.specs.Res.{Res, done, bind, nth, map_res}
 use Rattle.cell.specs.Values.{HasTy, is_null, as_truth, as_class}
@@ -26,7 +25,7 @@ use Rattle.tree.specs.Select.{test, table_tests, conj, root, declared_bound}
 use Rattle.run.specs.Run.{run}
 use Rattle.run.specs.Run as machine
 use Rattle.run.specs.Answer.{cell_for, pair_at, concat}
-use Rattle.reading.specs.Reading.{Frame, rows, scope_of, table_classes, row_classes, is_true, keep, eval, reads, sees}
+use Rattle.reading.specs.Reading.{rows, scope_of, table_classes, row_classes, is_true, keep, eval, reads, sees}
 use Rattle.reading.specs.Demands.{PairRuns, DataIs, Least, ClassIs, BoundIs}
 use Rattle.reading.proofs.Lists.{not_stuck, done_inj, bind_done, from, from_cons}
 use Rattle.reading.proofs.Lattice.{lub_below, lub_above, sees_lub}

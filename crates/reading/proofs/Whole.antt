@@ -15,7 +15,7 @@ use Rattle.view.specs.Ast.{Block}
 use Rattle.scope.specs.Blocks.{all, tables_named, opened}
 use Rattle.resolve.specs.Expr.{Expr, Select}
 use Rattle.resolve.specs.Resolve.{good, resolve, select, resolve_view}
-use Rattle.tree.specs.Select.{test, translated}
+use Rattle.tree.specs.Select.{translated}
 use Rattle.run.specs.Run.{run}
 use Rattle.run.specs.Run as machine
 use Rattle.run.specs.Answer.{Shown, cell_for, row_at, run_select}
