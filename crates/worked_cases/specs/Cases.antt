@@ -10,7 +10,6 @@ use Rattle.cell.specs.declared.Value.{Value}
 use Rattle.cell.specs.declared.Value.TheVariants.{Null, Truth, Fixed, Interval}
 use Rattle.class.specs.Class.{lub_of, dominatesb}
 use Rattle.class.specs.declared.Info.TheVariants.{Bound}
-use Rattle.catalogue.specs.Tables.{Table, Column}
 use Rattle.view.specs.Ast.{Exp}
 use Rattle.view.specs.Ast as ast
 use Rattle.scope.specs.Scopes.{Open, block}
