@@ -1,38 +1,31 @@
 -- One law for each way out of the answer over a tree that was written: 41, or written; and that what Translate wrote runs.
 -- Assumes nothing.
-use Prim.Native.Nat.{ℕ, zero, suc, ◌+◌, ◌-◌, ◌*◌, ◌<◌, ◌≤◌, min}
-use mathlib.Core.Path.{◌≡◌, refl, sym, ap, subst, ◌∙◌}
+use Prim.Native.Nat.{ℕ, ◌<◌}
+use mathlib.Core.Path.{◌≡◌, refl, sym, ap, ◌∙◌}
 use mathlib.Core.Bool.{Bool, true, false, cond, ◌&&◌}
-use mathlib.Core.List.{List, [], ◌∷◌, ◌++◌}
+use mathlib.Core.List.{List, ◌++◌}
 use native.Mathlib.Omega.{arith}
 use borrow.Author.Tests.{leb-true}
 use lib.Dec.{leb}
 use lib.ListN.{length, drop}
-use Rattle.word.specs.Buffer.{put, Wrote, Room}
+use Rattle.word.specs.Buffer.{put}
 use Rattle.word.specs.Header.{count_at}
-use Rattle.word.specs.Record.{b_at}
 use Rattle.word.proofs.Writing.{put_start}
-use Rattle.cell.specs.Res.{done, or_else}
-use Rattle.cell.specs.declared.Type.{«Type» as Ty}
+use Rattle.cell.specs.Res.{or_else}
 use Rattle.catalogue.specs.Fault as fault
-use Rattle.catalogue.specs.Tables.{Table, catalogue_of}
+use Rattle.catalogue.specs.Tables.{catalogue_of}
 use Rattle.catalogue.specs.declared.Verdict.TheVariants as catalogues
 use Rattle.store.specs.Layout as layout
-use Rattle.store.specs.Rows.{All, store_of}
+use Rattle.store.specs.Rows.{store_of}
 use Rattle.store.specs.declared.Verdict.TheVariants as stores
-use Rattle.view.specs.Ast.{Block, Parsed, ok, refused}
-use Rattle.view.specs.Parse.{parse_view}
 use Rattle.view.proofs.Laws.{and_left, and_right}
-use Rattle.resolve.specs.Expr.{Select}
-use Rattle.resolve.specs.Resolve as resolve
 use Rattle.tree.specs.Tree.{SelectTree, size_select, tree_file}
 use Rattle.tree.specs.Select.{translated}
-use Rattle.run.specs.Stands.{SelectStands}
-use Rattle.run.specs.Answer.{Shown, run_select, answer_file}
+use Rattle.run.specs.Answer.{Shown, answer_file}
 use Rattle.reading.specs.Reading.{answer_by_reading}
 use Rattle.reading.specs.Demands.{Bytes, Accepted}
 use Rattle.reading.proofs.Main.{answer_by_reading_lem}
-use Rattle.filter.specs.Jobs.{Checked, fine, refusal, and_then, resolved_by, view_by, tree_fits, tree_of, over, result_by, held_by, answer_fits, answer_of}
+use Rattle.filter.specs.Jobs.{Checked, fine, refusal, and_then, tree_of, over, result_by, held_by, answer_fits, answer_of}
 use Rattle.run.specs.Select as run
 use Rattle.filter.specs.Steps.{denied, taken, TreeGiven, BothGiven}
 use Rattle.filter.specs.declared.Result.{Result}

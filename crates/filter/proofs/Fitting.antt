@@ -3,12 +3,11 @@
 use Prim.Native.Nat.{ℕ, zero, suc, ◌+◌, ◌<◌, ◌≤◌, max}
 use mathlib.Core.Path.{◌≡◌, refl}
 use mathlib.Core.Bool.{Bool, true, false, cond}
-use mathlib.Core.List.{List, [], ◌∷◌, ◌++◌, map}
+use mathlib.Core.List.{List, [], ◌∷◌, ◌++◌}
 use native.Mathlib.Omega.{arith}
 use borrow.Author.Tests.{lt-ltb}
-use lib.Dec.{eqb}
 use lib.ListN.{length, get_or, length-map}
-use Rattle.class.specs.Class.{lub_of, lub_all}
+use Rattle.class.specs.Class.{lub_of}
 use Rattle.class.specs.Info.{bound_of}
 use Rattle.class.specs.declared.Info.{Info}
 use Rattle.class.specs.declared.Info.TheVariants.{Fixed, Bound}
@@ -22,7 +21,7 @@ use Rattle.store.specs.Rows.{All}
 use Rattle.resolve.specs.Expr.{Expr}
 use Rattle.resolve.specs.Expr as expr
 use Rattle.resolve.specs.Infos.{table_class}
-use Rattle.tree.specs.Tree.{Tree, tree_const, tree_binop, tree_not, tree_if, tree_exists, tree_value, tree_data, tree_cell_class, tree_row_class, tree_local, tree_local_class, tree_conv, tree_bind, tree_bind_class, tree_lub, tree_dom, tree_agg, tree_class}
+use Rattle.tree.specs.Tree.{Tree, tree_if, tree_cell_class, tree_row_class, tree_local_class, tree_agg}
 use Rattle.tree.specs.Trans.{expr_data, expr_class, Class, fixed, tree, as_tree, bound, info_of, by_info, nums, join, joins, join_all, same_fixed, choice, let_class, row_classes, block_class}
 use Rattle.packed.specs.Constants.{Constant}
 use Rattle.run.specs.Stands.{FoldFits, Fits, scopes}

@@ -1,7 +1,7 @@
 -- A refusal's number is never 0: number 0 says that the files were accepted.
 -- Assumes nothing.
 use Prim.Native.Nat.{ℕ, zero, suc, ◌+◌, ◌*◌}
-use mathlib.Core.Path.{◌≡◌, refl, sym, subst, ◌∙◌}
+use mathlib.Core.Path.{◌≡◌, refl}
 use mathlib.Core.Bool.{Bool, true, false, cond, ◌&&◌}
 use mathlib.Core.List.{List, [], ◌∷◌}
 use native.Mathlib.Omega.{arith}
@@ -19,7 +19,6 @@ use Rattle.catalogue.specs.declared.Verdict.TheVariants as catalogues
 use Rattle.catalogue.proofs.Meaning.{lowest_refused}
 use Rattle.store.specs.Layout as layout
 use Rattle.store.specs.Rows.{store_of}
-use Rattle.store.specs.declared.Verdict as store
 use Rattle.store.specs.declared.Verdict.TheVariants as stores
 use Rattle.view.specs.Ast.{TabName, Exp, Block, first_of, Parsed, ok, refused, and_then}
 use Rattle.view.specs.Ast as ast

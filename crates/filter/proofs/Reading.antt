@@ -28,7 +28,7 @@ use Rattle.reading.specs.Demands.{Bytes, Accepted, Promise}
 use Rattle.reading.proofs.Main.{promise, answer_by_reading_lem}
 use Rattle.filter.specs.Jobs.{Checked, fine, refusal, and_then, catalogue_by, store_by, tree_of, over, result_by, held_by, translate_over, answer_fits, answer_of, answer, Answered}
 use Rattle.filter.specs.declared.Result.{Result}
-use Rattle.filter.proofs.Trees.{TreeIs, tree_is}
+use Rattle.filter.proofs.Trees.{tree_is}
 use Rattle.filter.proofs.Numbers.{Numbered, answer_numbered}
 
 -- the files are accepted; the tree buffer o begins with the view's tree, the answer buffer p with the answer of the plain reading; the tree keeps what is promised

@@ -1,28 +1,27 @@
 -- Whatever is resolved over an accepted catalogue is sound: its constants, its classes, its digits; and it opens no more scopes than the view's value.
 -- Assumes nothing.
-use Prim.Native.Nat.{ℕ, zero, suc, ◌+◌, ◌<◌, ◌≤◌, max}
-use mathlib.Core.Path.{◌≡◌, refl, sym, ap, ◌∙◌}
+use Prim.Native.Nat.{ℕ, zero, suc, ◌+◌, ◌<◌, ◌≤◌}
+use mathlib.Core.Path.{◌≡◌, refl, ap}
 use mathlib.Core.Bool.{Bool, true, false, cond, ◌&&◌}
-use mathlib.Core.List.{List, [], ◌∷◌, map}
+use mathlib.Core.List.{List, [], ◌∷◌}
 use native.Mathlib.Omega.{arith}
 use borrow.Author.Tests.{leb-true}
 use lib.Dec.{eqb, leb}
 use lib.ListN.{length}
 use Rattle.word.specs.Bytes.{u16_at}
 use Rattle.word.specs.Header.{count_at}
-use Rattle.word.specs.Record.{op_at, b_at, c_at}
+use Rattle.word.specs.Record.{op_at, b_at}
 use Rattle.class.specs.Info.{info_by, bound_of}
 use Rattle.class.specs.declared.Info.TheVariants.{Fixed, Bound}
-use Rattle.cell.specs.Res.{Res, stuck, done, nth}
+use Rattle.cell.specs.Res.{done, nth}
 use Rattle.cell.specs.Types.{digits_rule, in_rule, digits_of, scale_of, same_type}
 use Rattle.cell.specs.declared.Type.{«Type» as Ty}
 use Rattle.cell.specs.declared.Type.TheVariants as T
-use Rattle.cell.proofs.Typing.{limb_in_rule}
 use Rattle.catalogue.specs.Fault.{check_of}
-use Rattle.catalogue.specs.Tables.{Table, Column, TabRef, column_at, table_at, catalogue_of}
+use Rattle.catalogue.specs.Tables.{Table, Column, TabRef, catalogue_of}
 use Rattle.catalogue.specs.declared.Verdict.TheVariants.{Tables}
 use Rattle.catalogue.proofs.Meaning.{accepted}
-use Rattle.catalogue.proofs.Listed.{info_is, tclass_is, row_is, TableStands, ColumnStands, table_stands, column_stands}
+use Rattle.catalogue.proofs.Listed.{info_is, tclass_is, row_is, ColumnStands, table_stands, column_stands}
 use Rattle.store.specs.Rows.{All}
 use Rattle.view.specs.Ast.{TabName, Exp}
 use Rattle.view.specs.Ast as ast

@@ -1,7 +1,7 @@
 -- What Translate writes stands and runs: the tree of an accepted view fits its records, opens at most 15 scopes in SELECT's own, and stands in its file.
 -- Assumes nothing.
-use Prim.Native.Nat.{ℕ, zero, suc, ◌+◌, ◌*◌, ◌<◌, ◌≤◌, max}
-use mathlib.Core.Path.{◌≡◌, refl, sym, ap, ◌∙◌}
+use Prim.Native.Nat.{ℕ, zero, suc, ◌+◌, ◌*◌, ◌<◌, ◌≤◌}
+use mathlib.Core.Path.{◌≡◌, refl, ap, ◌∙◌}
 use mathlib.Core.Bool.{Bool, true, false, cond}
 use mathlib.Core.List.{List, [], ◌∷◌, ◌++◌, map, append_assoc}
 use native.Mathlib.Omega.{arith}
@@ -9,12 +9,9 @@ use lib.ListN.{length, drop, length-append, length-map}
 use Rattle.tree.proofs.Sizes.{length_file}
 use lib.Seq.{drop_at}
 use Rattle.word.specs.Header.{drt, header, count_at}
-use Rattle.word.specs.Record.{rec_bytes}
 use Rattle.word.proofs.Laws.{length_header, header_count}
 use Rattle.class.specs.Class.{dominatesb}
 use Rattle.class.specs.Info.{bound_of}
-use Rattle.class.specs.declared.Info.{Info}
-use Rattle.class.specs.declared.Info.TheVariants.{Fixed}
 use Rattle.cell.specs.declared.Type.{«Type» as Ty}
 use Rattle.cell.specs.declared.Type.TheVariants as T
 use Rattle.catalogue.specs.Fault.{check_of}
@@ -26,10 +23,10 @@ use Rattle.view.specs.Parse.{parse_view}
 use Rattle.scope.specs.Scopes.{Open}
 use Rattle.scope.specs.Blocks.{opened}
 use Rattle.resolve.specs.Expr.{Expr, Select}
-use Rattle.resolve.specs.Resolve.{good, resolve, goods, resolve_all, select, resolve_view}
+use Rattle.resolve.specs.Resolve.{goods, resolve_all, select, resolve_view}
 use Rattle.resolve.proofs.Inversion.{all_good, view_good}
-use Rattle.tree.specs.Tree.{Tree, SelectTree, tree_binop, tree_dom, tree_row_class, tree_class, size, size_select, table_recs, encode, encode_pairs, encode_select, tree_file}
-use Rattle.tree.specs.Trans.{expr_data, expr_class, Class, fixed, tree, as_tree, bound, by_info, nums}
+use Rattle.tree.specs.Tree.{Tree, SelectTree, tree_dom, tree_row_class, tree_class, size, size_select, table_recs, encode, encode_pairs, encode_select, tree_file}
+use Rattle.tree.specs.Trans.{expr_data, expr_class, Class, fixed, tree, as_tree, bound, by_info}
 use Rattle.tree.specs.Select.{test, table_tests, conj, root, translated}
 use Rattle.run.specs.Stands.{Fits, scopes, PairsStand, SelectStands, PairsFit, SelectFits, PairsShallow, SelectShallow}
 use Rattle.run.proofs.Encodes.{From, tables_on, tables_stand, head, step, stand}

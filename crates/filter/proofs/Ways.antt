@@ -1,14 +1,14 @@
 -- One law for each way out of the two jobs, in the form in which the code holds the facts.
 -- Assumes nothing.
-use Prim.Native.Nat.{ℕ, zero, suc, ◌+◌, ◌-◌, ◌*◌, ◌<◌, ◌≤◌, min}
+use Prim.Native.Nat.{ℕ, ◌+◌, ◌*◌, ◌≤◌, min}
 use mathlib.Core.Path.{◌≡◌, refl, sym, ap, subst, ◌∙◌}
 use mathlib.Core.Bool.{Bool, true, false, cond, ◌&&◌}
-use mathlib.Core.List.{List, [], ◌∷◌, ◌++◌}
+use mathlib.Core.List.{List}
 use native.Mathlib.Omega.{arith}
 use borrow.Author.Tests.{leb-true, le-leb}
 use lib.Dec.{leb}
-use lib.ListN.{length, drop}
-use Rattle.word.specs.Buffer.{put, Wrote, Room}
+use lib.ListN.{length}
+use Rattle.word.specs.Buffer.{Wrote, Room}
 use Rattle.word.specs.Header.{count_at}
 use Rattle.word.proofs.Writing.{put_start}
 use Rattle.catalogue.specs.Fault as fault
@@ -27,7 +27,6 @@ use Rattle.view.specs.declared.Verdict as view
 use Rattle.view.specs.declared.Verdict.TheVariants as views
 use Rattle.view.proofs.Laws.{and_left, and_right}
 use Rattle.view.proofs.Whole as whole
-use Rattle.resolve.specs.Expr.{Select}
 use Rattle.resolve.specs.Resolve as resolve
 use Rattle.resolve.specs.Claims as claims
 use Rattle.resolve.specs.Sizes.{sums_of}
@@ -38,8 +37,7 @@ use Rattle.resolve.specs.declared.Verdict.TheVariants as namings
 use Rattle.tree.specs.Tree.{SelectTree, size_select, tree_file}
 use Rattle.tree.specs.Select.{translated}
 use Rattle.tree.proofs.Sizes.{length_file}
-use Rattle.run.specs.Answer.{Shown}
-use Rattle.filter.specs.Jobs.{Checked, fine, refusal, and_then, catalogue_by, store_by, resolved_by, view_by, tree_fits, tree_of, over, result_by, held_by, translate, Translated, answer_of, translate_over, answer, Answered}
+use Rattle.filter.specs.Jobs.{Checked, fine, refusal, and_then, catalogue_by, store_by, resolved_by, view_by, tree_fits, tree_of, over, result_by, held_by, translate, Translated, translate_over, answer, Answered}
 use Rattle.label.specs.Whole.{select_in, select_at, tree_at, Viewed}
 use Rattle.filter.specs.Steps.{denied, taken, TreeGiven, BothGiven}
 use Rattle.filter.specs.declared.Result.{Result}

@@ -1,6 +1,6 @@
 -- The two public jobs as total functions: from the inputs to number, place, count, and what each lent buffer holds afterwards.
 -- Order: catalogue, store (Answer only), view, 10, 41. Assumes nothing.
-use Rattle.std.specs.Prelude.{ℕ, ◌+◌, ◌*◌, ◌≡◌, Bool, true, false, cond, ◌&&◌, List, [], ◌∷◌, ◌++◌, length, drop, leb}
+use Rattle.std.specs.Prelude.{ℕ, ◌+◌, ◌*◌, ◌≡◌, cond, ◌&&◌, List, [], ◌++◌, length, drop, leb}
 use Rattle.word.specs.Header.{count_at}
 use Rattle.cell.specs.Res.{or_else}
 use Rattle.catalogue.specs.Tables.{Table, catalogue_of}

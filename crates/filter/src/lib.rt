@@ -1,5 +1,7 @@
 // The two public jobs, Translate and Answer, for any bytes.
 // The definitions are in specs/: Jobs has the order of refusals and what each buffer holds afterwards.
+#![tactic(auto)]
+
 ghost use Rattle.std.specs.Prelude.{◌≡◌, ℕ, length};
 ghost use Rattle.catalogue.specs.Fault as fault;
 ghost use Rattle.catalogue.specs.declared.Verdict.TheVariants as catalogues;
