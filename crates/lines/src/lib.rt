@@ -1,11 +1,13 @@
 // The lines of a text, the numbers and the files that they name, and numbers, spaces and line ends on a writer.
 // The definitions are in specs/: Text says what a line and a number are, Counts how many bytes came.
 //
-// A read that fails counts as the end of its input. A write that fails is the only error that a function here answers; what
-// was written before it stays written.
+// A read that fails counts as the end of its input. A write that fails is the only error that a function here answers: the
+// writer's own, passed on. What was written before it stays written, and of the writer no more is said, as `std` says no more.
 #![tactic(auto)]
 
-ghost use Rattle.std.specs.Prelude.{◌≡◌, ◌+◌, ◌-◌, ◌*◌, ◌≤◌, ◌<◌, length, nat_abs};
+ghost use Rattle.std.specs.Prelude.{◌≡◌, ◌+◌, ◌-◌, ◌*◌, ◌≤◌, ◌<◌, ◌∷◌, [], length, nat_abs, decimal, OnOk};
+ghost use Rattle.std.specs.Fmt.{signed_decimal};
+ghost use Rattle.std.specs.Io.KnownBytes.{Appends};
 ghost use Rattle.word.specs.Bytes.{signed32};
 ghost use Rattle.lines.specs.Counts.{IsPrefixLen};
 ghost use Rattle.lines.specs.Text.{line_end, line_start, line_close, is_digit, line_text, number_of, Within};
@@ -180,7 +182,9 @@ pub fn load_on<R: Files>(rt: &R, text: &[u8], j: usize, buf: &mut [u8]) -> usize
 }
 
 // Writes a number.
-pub fn print_number<W: Write>(out: &mut W, n: u64) -> io::Result<()> {
+pub fn print_number<W: Write>(out: &mut W, n: u64) -> io::Result<()>
+    ensures { OnOk result (Appends (W.contents out.old) (W.contents out.new) (decimal n)) }
+{
     write!(out, "{n}")
 }
 
@@ -202,7 +206,9 @@ fn magnitude(n: u32) -> u32
 }
 
 // Writes the signed number that 32 bits say.
-pub fn print_signed<W: Write>(out: &mut W, n: u32) -> io::Result<()> {
+pub fn print_signed<W: Write>(out: &mut W, n: u32) -> io::Result<()>
+    ensures { OnOk result (Appends (W.contents out.old) (W.contents out.new) (signed_decimal (signed32 n))) }
+{
     if 2147483648 <= n {
         out.write_all(b"-")?;
     }
@@ -210,11 +216,15 @@ pub fn print_signed<W: Write>(out: &mut W, n: u32) -> io::Result<()> {
 }
 
 // Writes a space.
-pub fn space<W: Write>(out: &mut W) -> io::Result<()> {
+pub fn space<W: Write>(out: &mut W) -> io::Result<()>
+    ensures { OnOk result (Appends (W.contents out.old) (W.contents out.new) (32 ∷ [])) }
+{
     out.write_all(b" ")
 }
 
 // Writes a line end.
-pub fn end_line<W: Write>(out: &mut W) -> io::Result<()> {
+pub fn end_line<W: Write>(out: &mut W) -> io::Result<()>
+    ensures { OnOk result (Appends (W.contents out.old) (W.contents out.new) (10 ∷ [])) }
+{
     out.write_all(b"\n")
 }
