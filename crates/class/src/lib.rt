@@ -29,78 +29,101 @@ pub fn lub(a: u16, b: u16) -> u16
     }
 }
 
-// A class is fixed, or it has a bound that dominates it.
-#[derive(Clone, Copy)]
+/// What is known of a class before a row is read: it is fixed, or it has a bound that dominates it.
+#[derive(Clone, Copy, PartialEq, Eq, Debug)]
 pub enum Info {
     Fixed(u16),
     Bound(u16),
 }
 
-// Op 0 says that b is fixed, any other that b is the bound.
+impl Info {
+    /// Op 0 says that the class is fixed, any other that it is the bound.
+    #[tactic(auto, unfolding(crate::specs::Info::info_by))]
+    pub fn by_op(op: u8, class: u16) -> Self
+        ensures { result ≡ info_by op class }
+    {
+        if op == 0 {
+            Info::Fixed(class)
+        } else {
+            Info::Bound(class)
+        }
+    }
+
+    /// The fixed class, or the bound.
+    #[tactic(auto, unfolding(crate::specs::Info::bound_of))]
+    pub fn bound(self) -> u16
+        ensures { result ≡ bound_of self }
+    {
+        match self {
+            Info::Fixed(class) | Info::Bound(class) => class,
+        }
+    }
+
+    /// Fixed with fixed is fixed; all else has the lub of both as its bound.
+    #[tactic(auto, unfolding(crate::specs::Info::join_i))]
+    pub fn join(self, other: Self) -> Self
+        ensures { result ≡ join_i self other }
+    {
+        match (self, other) {
+            (Info::Fixed(a), Info::Fixed(b)) => Info::Fixed(lub(a, b)),
+            (Info::Fixed(a) | Info::Bound(a), Info::Fixed(b) | Info::Bound(b)) => Info::Bound(lub(
+                a, b,
+            )),
+        }
+    }
+
+    /// Fixed if both are fixed and equal; else their lub is the bound.
+    #[tactic(auto, unfolding(crate::specs::Info::choice_i, crate::specs::Info::same_i, crate::specs::Info::bound_of))]
+    pub fn choose(self, other: Self) -> Self
+        ensures { result ≡ choice_i self other }
+    {
+        match (self, other) {
+            (Info::Fixed(a), Info::Fixed(b)) if a == b => self,
+            (Info::Fixed(a) | Info::Bound(a), Info::Fixed(b) | Info::Bound(b)) => Info::Bound(lub(
+                a, b,
+            )),
+        }
+    }
+
+    /// Whether a class is the fixed one, or is dominated by the bound.
+    #[tactic(auto, unfolding(crate::specs::Info::info_test))]
+    pub fn admits(self, class: u16) -> bool
+        ensures { result ≡ info_test self class }
+    {
+        match self {
+            Info::Fixed(fixed) => class == fixed,
+            Info::Bound(bound) => dominates(bound, class),
+        }
+    }
+}
+
+// The same by functions.
 pub fn info_by(op: u8, b: u16) -> Info
     ensures { result ≡ info_by op b }
 {
-    if op == 0 {
-        Info::Fixed(b)
-    } else {
-        Info::Bound(b)
-    }
+    Info::by_op(op, b)
 }
 
-// The fixed class, or the bound.
 pub fn bound_of(i: Info) -> u16
     ensures { result ≡ bound_of i }
 {
-    match i {
-        Info::Fixed(k) => k,
-        Info::Bound(b) => b,
-    }
+    i.bound()
 }
 
-// Fixed with fixed is fixed; all else has the lub of both as its bound.
 pub fn joined(x: Info, y: Info) -> Info
     ensures { result ≡ join_i x y }
 {
-    match x {
-        Info::Fixed(a) => match y {
-            Info::Fixed(b) => Info::Fixed(lub(a, b)),
-            Info::Bound(b) => Info::Bound(lub(a, b)),
-        },
-        Info::Bound(a) => match y {
-            Info::Fixed(b) => Info::Bound(lub(a, b)),
-            Info::Bound(b) => Info::Bound(lub(a, b)),
-        },
-    }
+    x.join(y)
 }
 
-// Fixed if both are fixed and equal; else their lub is the bound.
 pub fn chosen(x: Info, y: Info) -> Info
     ensures { result ≡ choice_i x y }
 {
-    match x {
-        Info::Fixed(a) => match y {
-            Info::Fixed(b) => {
-                if a == b {
-                    Info::Fixed(a)
-                } else {
-                    Info::Bound(lub(a, b))
-                }
-            }
-            Info::Bound(b) => Info::Bound(lub(a, b)),
-        },
-        Info::Bound(a) => match y {
-            Info::Fixed(b) => Info::Bound(lub(a, b)),
-            Info::Bound(b) => Info::Bound(lub(a, b)),
-        },
-    }
+    x.choose(y)
 }
 
-// Whether the class c is the fixed one, or is dominated by the bound.
 pub fn keeps(i: Info, c: u16) -> bool
     ensures { result ≡ info_test i c }
 {
-    match i {
-        Info::Fixed(k) => c == k,
-        Info::Bound(b) => dominates(b, c),
-    }
+    i.admits(c)
 }

@@ -4,3 +4,4 @@ pub mod Bytes
 pub mod Buffer
 pub mod Header
 pub mod Record
+pub mod Refusal

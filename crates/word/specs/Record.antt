@@ -4,6 +4,10 @@ use Rattle.std.specs.Prelude.{ℕ, ◌+◌, ◌*◌, ◌/◌, ◌%◌, List, [],
 use Rattle.word.specs.Bytes.{u16_at}
 use Rattle.word.specs.declared.Rec.{Rec}
 
+-- the type of a record
+abbrev pub Record : Type 0
+Record = Rec
+
 -- the fields of record i
 abbrev pub kind_at : List ℕ → ℕ → ℕ
 kind_at f i = get_or f (8 + 8 * i) 0

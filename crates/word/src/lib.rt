@@ -8,8 +8,8 @@ ghost use Rattle.word.specs.Buffer.{Wrote};
 ghost use Rattle.word.specs.Record.{rec_at, kind_at, op_at, a_at, b_at, c_at, rec_bytes};
 ghost use Rattle.word.specs.Header.{starts, headed, header};
 
-// A record: kind and op, then a, b, c.
-#[derive(Drop)]
+/// A record of eight bytes: kind and op, then a, b, c, lowest byte first.
+#[derive(Clone, Copy, PartialEq, Eq, Debug)]
 pub struct Rec {
     pub kind: u8,
     pub op: u8,
@@ -17,6 +17,13 @@ pub struct Rec {
     pub b: u16,
     pub c: u16,
 }
+
+/// The name of a record's type.
+pub type Record = Rec;
+
+mod refusal;
+
+pub use refusal::{Reason, Refusal};
 
 // A byte as a wider number: with the bound, a caller need not go back to the slice for it.
 fn wide(x: u8) -> u16
@@ -95,6 +102,22 @@ pub fn rec_at(b: &[u8], i: usize) -> Rec
         a: x,
         b: y,
         c: z,
+    }
+}
+
+/// Record i of a file: the eight bytes from place 8 + 8 i on.
+#[tactic(auto, unfolding(crate::specs::Record::rec_at))]
+pub fn record_at(bytes: &[u8], i: usize) -> Record
+    requires { 8 + 8 * i + 8 ≤ length bytes.now }
+    ensures { result ≡ rec_at bytes.now i }
+{
+    let at = 8 + 8 * i;
+    Record {
+        kind: bytes[at],
+        op: bytes[at + 1],
+        a: u16_at(bytes, at + 2),
+        b: u16_at(bytes, at + 4),
+        c: u16_at(bytes, at + 6),
     }
 }
 
@@ -178,6 +201,14 @@ pub fn put_rec(out: &mut [u8], at: usize, kind: u8, op: u8, a: u16, b: u16, c: u
     out[at + 6] = (c % 256) as u8;
     out[at + 7] = (c / 256) as u8;
     at + 8
+}
+
+/// A record at a place of a buffer; the place after it.
+pub fn put_record(out: &mut [u8], at: usize, value: Record) -> usize
+    requires { at + 8 ≤ length out.old }
+    ensures { Wrote out.old at (rec_bytes value.kind value.op value.a value.b value.c) out.new result }
+{
+    put_rec(out, at, value.kind, value.op, value.a, value.b, value.c)
 }
 
 // Whether b begins with the bytes of mark.
