@@ -1,6 +1,6 @@
 -- The outcome of a run: stuck, or done with a result.
 -- Assumes nothing.
-use Rattle.std.specs.Prelude.{ℕ, zero, suc, List, [], ◌∷◌}
+use Rattle.std.specs.Prelude.{ℕ, zero, suc, List, [], ◌∷◌, Option, Some, None}
 
 pub data Res (A : Type 0) : Type 0 where
   stuck : Res A
@@ -14,6 +14,11 @@ bind (done a) f = f a
 unfoldable pub or_else : {A : Type 0} → A → Res A → A
 or_else d stuck = d
 or_else d (done a) = a
+
+-- the code's answer: nothing where it is stuck
+unfoldable pub option_of : {A : Type 0} → Res A → Option A
+option_of stuck = None
+option_of (done a) = Some a
 
 -- element n of a list
 unfoldable pub nth : {A : Type 0} → List A → ℕ → Res A

@@ -12,7 +12,8 @@ pub use types::{
     type_by, type_rule, word_of,
 };
 
-#[derive(Clone, Copy)]
+/// The type of a value: a fixed one's digits and scale, the format of a time or an interval.
+#[derive(Clone, Copy, PartialEq, Eq, Debug)]
 pub enum Type {
     Null,
     Boolean,
@@ -29,7 +30,8 @@ pub enum Judged {
     Broken,
 }
 
-#[derive(Clone, Copy)]
+/// A value: a fixed one's scale and mantissa, the number of a time or an interval, the word of a class.
+#[derive(Clone, Copy, PartialEq, Eq, Debug)]
 pub enum Value {
     Null,
     Truth(bool),

@@ -1,9 +1,9 @@
 // Types by the catalogue's words, and the type rules of operators and of IF.
 // Every public function is total.
 ghost use Rattle.std.specs.Prelude.{◌≡◌, ◌/◌, ◌%◌, ◌≤◌};
+ghost use Rattle.cell.specs.Res.{option_of};
 ghost use Rattle.cell.specs.Types.{binop_type, digits_of, digits_rule, equal_type, format_of, judged_of, kind_of, limb_type, logic_type, order_type, product_type, same_type, scale_of, sum_type, type_by, type_rule, wider_of, word_of};
 
-use crate::numbers::larger;
 use crate::{Judged, Type};
 
 // Whether p digits at scale s are in rule.
@@ -42,23 +42,170 @@ pub fn type_by(word: u16) -> Type
     }
 }
 
-fn wide(x: u8) -> u16
-    ensures { result ≡ x }
-{
-    x as u16
-}
-
 // The word of a type.
+#[tactic(auto, unfolding(crate::specs::Types::word_of))]
 pub fn word_of(t: Type) -> u16
     ensures { result ≡ word_of t }
 {
     match t {
         Type::Null => 0,
         Type::Boolean => 256,
-        Type::Fixed(p, s) => 512 + (16 * wide(p) + wide(s)),
-        Type::Time(f) => 768 + wide(f),
-        Type::Interval(f) => 1024 + wide(f),
+        Type::Fixed(p, s) => 512 + (16 * u16::from(p) + u16::from(s)),
+        Type::Time(f) => 768 + u16::from(f),
+        Type::Interval(f) => 1024 + u16::from(f),
         Type::Class => 1280,
+    }
+}
+
+#[tactic(auto, unfolding(crate::specs::Types::kind_of, crate::specs::Types::digits_of, crate::specs::Types::scale_of, crate::specs::Types::format_of, crate::specs::Types::wider_of, crate::specs::Types::sum_type, crate::specs::Types::product_type, crate::specs::Types::logic_type, crate::specs::Types::order_type, crate::specs::Types::equal_type, crate::specs::Types::same_type, crate::specs::Types::limb_type, crate::specs::Types::binop_type, crate::specs::Res::option_of))]
+impl Type {
+    /// The number of the kind, as the catalogue has it; 0 for null.
+    pub fn kind(self) -> u8
+        ensures { result ≡ kind_of self }
+    {
+        match self {
+            Type::Null => 0,
+            Type::Boolean => 1,
+            Type::Fixed(_, _) => 2,
+            Type::Time(_) => 3,
+            Type::Interval(_) => 4,
+            Type::Class => 5,
+        }
+    }
+
+    /// The digits of a fixed type; else 0.
+    pub fn digits(self) -> u8
+        ensures { result ≡ digits_of self }
+    {
+        match self {
+            Type::Fixed(digits, _) => digits,
+            _ => 0,
+        }
+    }
+
+    /// The scale of a fixed type; else 0.
+    pub fn scale(self) -> u8
+        ensures { result ≡ scale_of self }
+    {
+        match self {
+            Type::Fixed(_, scale) => scale,
+            _ => 0,
+        }
+    }
+
+    /// The format of a time or an interval; else 0.
+    pub fn format(self) -> u8
+        ensures { result ≡ format_of self }
+    {
+        match self {
+            Type::Time(format) | Type::Interval(format) => format,
+            _ => 0,
+        }
+    }
+
+    /// The type of plus and minus: two fixed; a time with an interval; two intervals of one format.
+    fn sum(left: Type, right: Type) -> Option<Type>
+        ensures { result ≡ option_of (sum_type left right) }
+    {
+        match (left, right) {
+            (Type::Fixed(p, s), Type::Fixed(q, r)) => Some(Type::Fixed(p.max(q), s.max(r))),
+            (Type::Time(f), Type::Interval(_)) => Some(Type::Time(f)),
+            (Type::Interval(f), Type::Interval(g)) if f == g => Some(Type::Interval(f)),
+            _ => None,
+        }
+    }
+
+    /// The type of times and divide: two fixed; an interval with a fixed one.
+    fn product(left: Type, right: Type) -> Option<Type>
+        ensures { result ≡ option_of (product_type left right) }
+    {
+        match (left, right) {
+            (Type::Fixed(p, s), Type::Fixed(q, r)) => Some(Type::Fixed(p.max(q), s.max(r))),
+            (Type::Interval(f), Type::Fixed(_, _)) => Some(Type::Interval(f)),
+            _ => None,
+        }
+    }
+
+    /// The type of and, or: two booleans.
+    fn logic(left: Type, right: Type) -> Option<Type>
+        ensures { result ≡ option_of (logic_type left right) }
+    {
+        match (left, right) {
+            (Type::Boolean, Type::Boolean) => Some(Type::Boolean),
+            _ => None,
+        }
+    }
+
+    /// The type of a test of order: two fixed, two times or two intervals.
+    fn order(left: Type, right: Type) -> Option<Type>
+        ensures { result ≡ option_of (order_type left right) }
+    {
+        match (left, right) {
+            (Type::Fixed(_, _), Type::Fixed(_, _))
+            | (Type::Time(_), Type::Time(_))
+            | (Type::Interval(_), Type::Interval(_)) => Some(Type::Boolean),
+            _ => None,
+        }
+    }
+
+    /// The type of a test of equality: two of one kind, or null with anything.
+    fn equality(left: Type, right: Type) -> Option<Type>
+        ensures { result ≡ option_of (equal_type left right) }
+    {
+        match (left, right) {
+            (Type::Null, _)
+            | (_, Type::Null)
+            | (Type::Boolean, Type::Boolean)
+            | (Type::Fixed(_, _), Type::Fixed(_, _))
+            | (Type::Time(_), Type::Time(_))
+            | (Type::Interval(_), Type::Interval(_))
+            | (Type::Class, Type::Class) => Some(Type::Boolean),
+            _ => None,
+        }
+    }
+
+    /// The type of 1 to 4.
+    fn arithmetic(op: u8, left: Type, right: Type) -> Option<Type>
+        requires { (1 ≤ op) × (op ≤ 4) }
+        ensures { result ≡ option_of (binop_type op left right) }
+    {
+        match op {
+            1..=2 => Type::sum(left, right),
+            _ => Type::product(left, right),
+        }
+    }
+
+    /// The type of 7 to 12.
+    fn test(op: u8, left: Type, right: Type) -> Option<Type>
+        requires { (7 ≤ op) × (op ≤ 12) }
+        ensures { result ≡ option_of (binop_type op left right) }
+    {
+        match op {
+            9..=10 => Type::equality(left, right),
+            _ => Type::order(left, right),
+        }
+    }
+
+    /// The type of an operator over two types, where it has one.
+    pub fn binop(op: u8, left: Type, right: Type) -> Option<Type>
+        ensures { result ≡ option_of (binop_type op left right) }
+    {
+        match op {
+            1..=4 => Type::arithmetic(op, left, right),
+            5..=6 => Type::logic(left, right),
+            7..=12 => Type::test(op, left, right),
+            _ => None,
+        }
+    }
+
+    /// The type of IF over its limbs' types: equal types, or two fixed to the larger digits and scale; else none.
+    pub fn limb(left: Type, right: Type) -> Option<Type>
+        ensures { result ≡ option_of (limb_type left right) }
+    {
+        match (left, right) {
+            (Type::Fixed(p, s), Type::Fixed(q, r)) => Some(Type::Fixed(p.max(q), s.max(r))),
+            _ => if left == right { Some(left) } else { None },
+        }
     }
 }
 
@@ -66,192 +213,56 @@ pub fn word_of(t: Type) -> u16
 pub fn kind_of(t: Type) -> u8
     ensures { result ≡ kind_of t }
 {
-    match t {
-        Type::Null => 0,
-        Type::Boolean => 1,
-        Type::Fixed(_, _) => 2,
-        Type::Time(_) => 3,
-        Type::Interval(_) => 4,
-        Type::Class => 5,
-    }
+    t.kind()
 }
 
 // The digits of a fixed type; else 0.
 pub fn digits_of(t: Type) -> u8
     ensures { result ≡ digits_of t }
 {
-    match t {
-        Type::Null => 0,
-        Type::Boolean => 0,
-        Type::Fixed(p, _) => p,
-        Type::Time(_) => 0,
-        Type::Interval(_) => 0,
-        Type::Class => 0,
-    }
+    t.digits()
 }
 
 // The scale of a fixed type; else 0.
 pub fn scale_of(t: Type) -> u8
     ensures { result ≡ scale_of t }
 {
-    match t {
-        Type::Null => 0,
-        Type::Boolean => 0,
-        Type::Fixed(_, s) => s,
-        Type::Time(_) => 0,
-        Type::Interval(_) => 0,
-        Type::Class => 0,
-    }
+    t.scale()
 }
 
 // The format of a time or an interval; else 0.
 pub fn format_of(t: Type) -> u8
     ensures { result ≡ format_of t }
 {
-    match t {
-        Type::Null => 0,
-        Type::Boolean => 0,
-        Type::Fixed(_, _) => 0,
-        Type::Time(f) => f,
-        Type::Interval(f) => f,
-        Type::Class => 0,
-    }
-}
-
-// Two fixed types give the larger p and the larger s.
-fn wider(s: Type, t: Type) -> Type
-    ensures { result ≡ wider_of s t }
-{
-    Type::Fixed(
-        larger(digits_of(s), digits_of(t)),
-        larger(scale_of(s), scale_of(t)),
-    )
-}
-
-// 1 plus, 2 minus.
-fn sum_type(s: Type, t: Type) -> Judged
-    ensures { result ≡ judged_of (sum_type s t) }
-{
-    let i = kind_of(s);
-    let j = kind_of(t);
-    if (i == 2) & (j == 2) {
-        return Judged::Is(wider(s, t));
-    }
-    if (i == 3) & (j == 4) {
-        return Judged::Is(s);
-    }
-    if ((i == 4) & (j == 4)) & (format_of(s) == format_of(t)) {
-        Judged::Is(s)
-    } else {
-        Judged::Broken
-    }
-}
-
-// 3 times, 4 divide.
-fn product_type(s: Type, t: Type) -> Judged
-    ensures { result ≡ judged_of (product_type s t) }
-{
-    let i = kind_of(s);
-    let j = kind_of(t);
-    if (i == 2) & (j == 2) {
-        return Judged::Is(wider(s, t));
-    }
-    if (i == 4) & (j == 2) {
-        Judged::Is(s)
-    } else {
-        Judged::Broken
-    }
-}
-
-// 5 and, 6 or.
-fn logic_type(s: Type, t: Type) -> Judged
-    ensures { result ≡ judged_of (logic_type s t) }
-{
-    if (kind_of(s) == 1) & (kind_of(t) == 1) {
-        Judged::Is(Type::Boolean)
-    } else {
-        Judged::Broken
-    }
-}
-
-// 7 <, 8 <=, 11 >=, 12 >.
-fn order_type(s: Type, t: Type) -> Judged
-    ensures { result ≡ judged_of (order_type s t) }
-{
-    let i = kind_of(s);
-    if (i == kind_of(t)) & ((2 <= i) & (i <= 4)) {
-        Judged::Is(Type::Boolean)
-    } else {
-        Judged::Broken
-    }
-}
-
-// 9 =, 10 <>.
-fn equal_type(s: Type, t: Type) -> Judged
-    ensures { result ≡ judged_of (equal_type s t) }
-{
-    let i = kind_of(s);
-    let j = kind_of(t);
-    if (i == j) | ((i == 0) | (j == 0)) {
-        Judged::Is(Type::Boolean)
-    } else {
-        Judged::Broken
-    }
-}
-
-// 1 to 4.
-fn arithmetic_type(op: u8, s: Type, t: Type) -> Judged
-    requires { (1 ≤ op) × (op ≤ 4) }
-    ensures { result ≡ judged_of (binop_type op s t) }
-{
-    match op {
-        1..=2 => sum_type(s, t),
-        _ => product_type(s, t),
-    }
-}
-
-// 7 to 12.
-fn test_type(op: u8, s: Type, t: Type) -> Judged
-    requires { (7 ≤ op) × (op ≤ 12) }
-    ensures { result ≡ judged_of (binop_type op s t) }
-{
-    match op {
-        9..=10 => equal_type(s, t),
-        _ => order_type(s, t),
-    }
+    t.format()
 }
 
 // The type of BINOP op over two types.
+#[tactic(auto, using(crate::proofs::Options::options), unfolding(crate::specs::Types::judged_of))]
 pub fn binop_type(op: u8, s: Type, t: Type) -> Judged
     ensures { result ≡ judged_of (binop_type op s t) }
 {
-    match op {
-        1..=4 => arithmetic_type(op, s, t),
-        5..=6 => logic_type(s, t),
-        7..=12 => test_type(op, s, t),
-        _ => Judged::Broken,
+    match Type::binop(op, s, t) {
+        Some(t) => Judged::Is(t),
+        None => Judged::Broken,
     }
 }
 
 // Whether two types are equal.
+#[tactic(auto, unfolding(crate::specs::Types::kind_of, crate::specs::Types::digits_of, crate::specs::Types::scale_of, crate::specs::Types::format_of, crate::specs::Types::same_type))]
 pub fn same_type(s: Type, t: Type) -> bool
     ensures { result ≡ same_type s t }
 {
-    (kind_of(s) == kind_of(t))
-        & (((digits_of(s) == digits_of(t)) & (scale_of(s) == scale_of(t)))
-            & (format_of(s) == format_of(t)))
+    s == t
 }
 
 // The type of IF over its limbs' types.
+#[tactic(auto, using(crate::proofs::Options::options), unfolding(crate::specs::Types::judged_of))]
 pub fn limb_type(s: Type, t: Type) -> Judged
     ensures { result ≡ judged_of (limb_type s t) }
 {
-    if (kind_of(s) == 2) & (kind_of(t) == 2) {
-        return Judged::Is(wider(s, t));
-    }
-    if same_type(s, t) {
-        Judged::Is(s)
-    } else {
-        Judged::Broken
+    match Type::limb(s, t) {
+        Some(t) => Judged::Is(t),
+        None => Judged::Broken,
     }
 }
