@@ -1,5 +1,6 @@
 -- The laws of types and values: Typing and Sound are for the layers above, the others for the functions of this crate.
 -- Assumes nothing.
+pub mod Equal
 pub mod Options
 pub mod Ranges
 pub mod Judging

@@ -103,12 +103,22 @@ impl Type {
         }
     }
 
+    /// Two fixed types give the larger digits and the larger scale.
+    fn wider(self, other: Type) -> Type
+        ensures { result ≡ wider_of self other }
+    {
+        Type::Fixed(
+            self.digits().max(other.digits()),
+            self.scale().max(other.scale()),
+        )
+    }
+
     /// The type of plus and minus: two fixed; a time with an interval; two intervals of one format.
     fn sum(left: Type, right: Type) -> Option<Type>
         ensures { result ≡ option_of (sum_type left right) }
     {
         match (left, right) {
-            (Type::Fixed(p, s), Type::Fixed(q, r)) => Some(Type::Fixed(p.max(q), s.max(r))),
+            (Type::Fixed(_, _), Type::Fixed(_, _)) => Some(left.wider(right)),
             (Type::Time(f), Type::Interval(_)) => Some(Type::Time(f)),
             (Type::Interval(f), Type::Interval(g)) if f == g => Some(Type::Interval(f)),
             _ => None,
@@ -120,7 +130,7 @@ impl Type {
         ensures { result ≡ option_of (product_type left right) }
     {
         match (left, right) {
-            (Type::Fixed(p, s), Type::Fixed(q, r)) => Some(Type::Fixed(p.max(q), s.max(r))),
+            (Type::Fixed(_, _), Type::Fixed(_, _)) => Some(left.wider(right)),
             (Type::Interval(f), Type::Fixed(_, _)) => Some(Type::Interval(f)),
             _ => None,
         }
@@ -203,7 +213,7 @@ impl Type {
         ensures { result ≡ option_of (limb_type left right) }
     {
         match (left, right) {
-            (Type::Fixed(p, s), Type::Fixed(q, r)) => Some(Type::Fixed(p.max(q), s.max(r))),
+            (Type::Fixed(_, _), Type::Fixed(_, _)) => Some(left.wider(right)),
             _ => if left == right { Some(left) } else { None },
         }
     }
@@ -249,7 +259,7 @@ pub fn binop_type(op: u8, s: Type, t: Type) -> Judged
 }
 
 // Whether two types are equal.
-#[tactic(auto, unfolding(crate::specs::Types::kind_of, crate::specs::Types::digits_of, crate::specs::Types::scale_of, crate::specs::Types::format_of, crate::specs::Types::same_type))]
+#[tactic(auto, using(crate::proofs::Equal::equal_types))]
 pub fn same_type(s: Type, t: Type) -> bool
     ensures { result ≡ same_type s t }
 {
