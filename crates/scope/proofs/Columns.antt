@@ -1,5 +1,6 @@
 -- What a table has for a name: one law for each place of the code.
 -- Assumes nothing.
+use Rattle.std.specs.Prelude.{Option, Some, None}
 use Prim.Native.Nat.{ℕ, ◌+◌, ◌-◌, ◌<◌, ◌≤◌}
 use mathlib.Core.Path.{◌≡◌, refl, sym, ap, ◌∙◌}
 use mathlib.Core.Bool.{Bool, true, false, cond, ◌||◌}
@@ -15,7 +16,9 @@ use Rattle.cell.specs.declared.Type.{«Type» as Ty}
 use Rattle.catalogue.specs.Tables.{Table, column_at, cols_from, table_at}
 use Rattle.catalogue.proofs.Listed.{cols_next, cols_stop, cols_end}
 use Rattle.scope.specs.Scopes.{column, only_of, in_cols, in_table}
-use Rattle.scope.specs.Match.{FirstIs, MatchIs}
+use Rattle.scope.specs.Match.{FirstIs, MatchIs, first_by, only_by}
+use Rattle.scope.specs.declared.Matches.{Matches}
+use Rattle.scope.specs.declared.Matches.TheVariants as N
 use Rattle.scope.specs.declared.Found.TheVariants as F
 
 -- no column from record i up to record j has the name
@@ -29,25 +32,23 @@ module _ (c : List ℕ) (n i name : ℕ) where
   named_begin p = record { some = p; from = omega arith; same = λ a b k t. let e : k + (i - i) ≡ k = omega arith in rw e }
 
   module _ (j : ℕ) (u : Unnamed c n i name j) where
-    none_left : cols_from c (n - j) j ≡ [] → FirstIs c n i name 0
-    unfolding in_cols
-    none_left e = record { small = omega arith; past = λ z. absurd (z refl); says = λ a b k t. u.same a b k t ∙ rw e }
+    none_left : cols_from c (n - j) j ≡ [] → FirstIs c n i name None
+    unfolding in_cols first_by
+    none_left e = record { past = λ m z. absurd (let y : ◌≡◌ {A = ℕ} 0 1 = cc in omega arith); says = λ a b k t. u.same a b k t ∙ rw e }
 
-    pub named_done : n ≤ j → FirstIs c n i name 0
+    pub named_done : n ≤ j → FirstIs c n i name None
     named_done h = none_left (cols_end c n j h)
 
     module _ (w : ℕ) (y : w ≡ kind_at c j) where
-      pub named_stop : (w ≡ 2 → ⊥) → FirstIs c n i name 0
+      pub named_stop : (w ≡ 2 → ⊥) → FirstIs c n i name None
       named_stop f = none_left (cols_stop c (n - j) j (λ z. f (y ∙ z)))
 
       module _ (h : j < n) (f : w ≡ 2) (x : ℕ) (z : x ≡ a_at c j) where
-        pub named_here : x ≡ name → FirstIs c n i name j
-        unfolding in_cols
+        pub named_here : x ≡ name → FirstIs c n i name (Some j)
+        unfolding in_cols first_by
         named_here g =
-            let p = u.some in
             let l = u.from in
-            let e : eqb j 0 ≡ false = ne_eqb j 0 (λ o. absurd (omega arith)) in
-            record { small = omega arith; past = λ o. (l, h); says = λ a b k t. u.same a b k t ∙ rw (cols_next c n j h (sym y ∙ f), e) (unfold column_at in rw (eq-eqb (a_at c j) name (sym z ∙ g))) }
+            record { past = λ m o. let y : j ≡ m = cc in rw (← y) (l, h); says = λ a b k t. u.same a b k t ∙ rw (cols_next c n j h (sym y ∙ f)) (unfold column_at in rw (eq-eqb (a_at c j) name (sym z ∙ g))) }
 
         pub named_again : (x ≡ name → ⊥) → Unnamed c n i name (j + 1)
         unfolding in_cols
@@ -67,29 +68,29 @@ module _ (c : List ℕ) (n t name : ℕ) where
   unfolding in_table table_at
   all_cols a b = refl
 
-  no_match : (q : ℕ) → ((a b : ℕ) → in_table name q a b (table_at c n t) ≡ []) → MatchIs c n t name q 0
-  unfolding only_of
-  no_match q e = record { small = omega arith; past = λ z. absurd (z refl); says = λ a b. rw (e a b) }
+  no_match : (q : ℕ) → ((a b : ℕ) → in_table name q a b (table_at c n t) ≡ []) → MatchIs c n t name q N.None
+  unfolding only_of only_by
+  no_match q e = record { past = λ i z. absurd (let y : ◌≡◌ {A = ℕ} 0 1 = cc in omega arith); says = λ a b. rw (e a b) }
 
-  module _ (i : ℕ) (f : FirstIs c n (t + 1) name i) where
-    pub column_none : i ≡ 0 → MatchIs c n t name 0 0
+  module _ (r : Option ℕ) (f : FirstIs c n (t + 1) name r) where
+    pub column_none : r ≡ None → MatchIs c n t name 0 N.None
+    unfolding first_by
     column_none e = no_match 0 (λ a b. all_cols a b ∙ f.says a b 0 (table_at c n t) ∙ rw e)
 
-    module _ (z : i ≡ 0 → ⊥) (k : ℕ) (s : FirstIs c n (i + 1) name k) where
+    module _ (i : ℕ) (z : r ≡ Some i) (u : Option ℕ) (s : FirstIs c n (i + 1) name u) where
       two_cols : (a b : ℕ) → in_table name 0 a b (table_at c n t) ≡ column a b (i - (t + 1)) (table_at c n t) (column_at c i) ∷ in_cols name a b (table_at c n t) (i - (t + 1) + 1) (cols_from c (n - (i + 1)) (i + 1))
-      two_cols a b = let e : 0 + (i - (t + 1)) ≡ i - (t + 1) = omega arith in all_cols a b ∙ f.says a b 0 (table_at c n t) ∙ rw (ne_eqb i 0 z, e)
+      unfolding first_by
+      two_cols a b = let e : 0 + (i - (t + 1)) ≡ i - (t + 1) = omega arith in all_cols a b ∙ f.says a b 0 (table_at c n t) ∙ rw (z, e)
 
-      pub column_one : k ≡ 0 → MatchIs c n t name 0 i
-      unfolding only_of
+      pub column_one : u ≡ None → MatchIs c n t name 0 (N.One i)
+      unfolding only_of only_by first_by
       column_one e =
-          let l = f.past z in
-          record { small = f.small; past = λ o. omega arith; says = λ a b. rw (two_cols a b, s.says a b (i - (t + 1) + 1) (table_at c n t), e, ne_eqb i 0 z, ne_eqb i n (λ o. absurd (omega arith))) }
+          let l = f.past i z in
+          record { past = λ j o. let y : i ≡ j = cc in rw (← y) (omega arith, l.1); says = λ a b. rw (two_cols a b, s.says a b (i - (t + 1) + 1) (table_at c n t), e) }
 
-      pub column_more : (k ≡ 0 → ⊥) → MatchIs c n t name 0 n
-      unfolding only_of
-      column_more e =
-          let l = f.past z in
-          record { small = omega arith; past = λ o. omega arith; says = λ a b. rw (two_cols a b, s.says a b (i - (t + 1) + 1) (table_at c n t), ne_eqb k 0 e, ne_eqb n 0 (λ o. absurd (omega arith)), eq-eqb n n refl) }
+      pub column_more : (k : ℕ) → u ≡ Some k → MatchIs c n t name 0 N.Several
+      unfolding only_of only_by first_by
+      column_more k e = record { past = λ j o. absurd (let y : ◌≡◌ {A = ℕ} 0 1 = cc in omega arith); says = λ a b. rw (two_cols a b, s.says a b (i - (t + 1) + 1) (table_at c n t), e) }
 
   module _ (q : ℕ) where
     no_cols : n ≤ t → (table_at c n t).cols ≡ []
@@ -100,23 +101,28 @@ module _ (c : List ℕ) (n t name : ℕ) where
     either true y = refl
     either false y = refl
 
-    pub table_out : n ≤ t → MatchIs c n t name q 0
+    pub table_out : n ≤ t → MatchIs c n t name q N.None
     unfolding in_table in_cols
     table_out h = no_match q (λ a b. rw (no_cols h) (either (eqb q 0 || eqb (table_at c n t).tname q) []))
 
-    module _ (own : ℕ) (e : own ≡ a_at c t) where
-      meant : (a b : ℕ) → (eqb q 0 || eqb own q) ≡ true → in_table name q a b (table_at c n t) ≡ in_table name 0 a b (table_at c n t)
-      unfolding in_table table_at
-      meant a b f = rw (rw e at f)
+    meant : (a b : ℕ) → (eqb q 0 || eqb (a_at c t) q) ≡ true → in_table name q a b (table_at c n t) ≡ in_table name 0 a b (table_at c n t)
+    unfolding in_table table_at
+    meant a b f = rw f
 
-      pub table_yes : (r : ℕ) → (eqb q 0 || eqb own q) ≡ true → MatchIs c n t name 0 r → MatchIs c n t name q r
-      table_yes r f m = record { small = m.small; past = m.past; says = λ a b. ap only_of (meant a b f) ∙ m.says a b }
+    table_yes : (r : Matches) → (eqb q 0 || eqb (a_at c t) q) ≡ true → MatchIs c n t name 0 r → MatchIs c n t name q r
+    table_yes r f m = record { past = m.past; says = λ a b. ap only_of (meant a b f) ∙ m.says a b }
 
-      not_meant : (a b : ℕ) → (eqb q 0 || eqb own q) ≡ false → in_table name q a b (table_at c n t) ≡ []
-      unfolding in_table table_at
-      not_meant a b f = rw (rw e at f)
+    pub table_bare : (r : Matches) → q ≡ 0 → MatchIs c n t name 0 r → MatchIs c n t name q r
+    table_bare r e = table_yes r (rw (eq-eqb q 0 e))
 
-      pub table_no : (eqb q 0 || eqb own q) ≡ false → MatchIs c n t name q 0
-      table_no f = no_match q (λ a b. not_meant a b f)
+    pub table_own : (r : Matches) (own : ℕ) → own ≡ a_at c t → (q ≡ 0 → ⊥) → own ≡ q → MatchIs c n t name 0 r → MatchIs c n t name q r
+    table_own r own e f g = table_yes r (rw (ne_eqb q 0 f, eq-eqb (a_at c t) q (sym e ∙ g)))
 
-pub ruleset columns = (named_begin, named_done, named_stop, named_here, named_again, column_made, column_none, column_one, column_more, table_out, table_yes, table_no, rules)
+    not_meant : (a b : ℕ) → (eqb q 0 || eqb (a_at c t) q) ≡ false → in_table name q a b (table_at c n t) ≡ []
+    unfolding in_table table_at
+    not_meant a b f = rw f
+
+    pub table_no : (own : ℕ) → own ≡ a_at c t → (q ≡ 0 → ⊥) → (own ≡ q → ⊥) → MatchIs c n t name q N.None
+    table_no own e f g = no_match q (λ a b. not_meant a b (rw (ne_eqb q 0 f, ne_eqb (a_at c t) q (λ z. g (e ∙ z)))))
+
+pub ruleset columns = (named_begin, named_done, named_stop, named_here, named_again, column_made, column_none, column_one, column_more, table_out, table_bare, table_own, table_no, rules)

@@ -1,87 +1,33 @@
 -- What the only match of a list of matches is, put together from parts.
 -- Assumes nothing.
 use Prim.Native.Nat.{ℕ, ◌+◌}
-use mathlib.Core.Path.{◌≡◌, refl, sym, subst, ◌∙◌}
+use mathlib.Core.Path.{◌≡◌, refl, sym, ◌∙◌}
 use mathlib.Core.Bool.{Bool, true, false, cond, ◌&&◌, ◌||◌}
 use mathlib.Core.List.{List, [], ◌∷◌, ◌++◌}
-use borrow.Author.Rules.{rules}
-use lib.Dec.{T as Holds, eqb}
+use lib.Dec.{eqb}
 use lib.ListN.{get_or}
 use Rattle.class.specs.declared.Info.{Info}
 use Rattle.class.specs.declared.Info.TheVariants.{Fixed}
-use Rattle.cell.specs.declared.Type.{«Type» as Ty}
 use Rattle.catalogue.specs.Tables.{Table, Column}
 use Rattle.scope.specs.Scopes.{Open, block, local, Hit, column, bound, Only, none, one, more, only_of, in_cols, in_table, in_tabs, in_scope}
 use Rattle.scope.specs.Table.{found_of}
-use Rattle.scope.specs.Match.{found_in, is_found, any_of}
-use Rattle.scope.specs.declared.Found.{Found}
-use Rattle.scope.specs.declared.Found.TheVariants as F
-
--- is_found, as the code goes
-pub found_column : {x : Found} {a b c : ℕ} {t : Ty} {i r : Info} → x ≡ F.Column a b c t i r → true ≡ is_found x
-unfolding is_found
-found_column e = rw e
-
-pub found_local : {x : Found} {a : ℕ} {t : Ty} {i : Info} → x ≡ F.Local a t i → true ≡ is_found x
-unfolding is_found
-found_local e = rw e
-
-pub found_none : {x : Found} → x ≡ F.None → false ≡ is_found x
-unfolding is_found
-found_none e = rw e
-
-pub found_more : {x : Found} → x ≡ F.Ambiguous → true ≡ is_found x
-unfolding is_found
-found_more e = rw e
-
-pub ruleset hits = (found_column, found_local, found_none, found_more, rules)
+use Rattle.scope.specs.Match.{found_in}
 
 -- THE ONLY MATCH of two lists: of neither, of one alone, of both
-pub only_none : (xs ys : List Hit) → only_of xs ≡ none → only_of (xs ++ ys) ≡ only_of ys
-unfolding only_of any_of
-only_none [] ys e = refl
-only_none (x ∷ []) ys e = absurd (subst (λ (z : Only Hit). Holds (any_of z)) e tt)
-only_none (x ∷ (y ∷ xs)) ys e = absurd (subst (λ (z : Only Hit). Holds (any_of z)) e tt)
+unfoldable pub both : Only Hit → Only Hit → Only Hit
+both none y = y
+both (one h) none = one h
+both (one h) (one k) = more
+both (one h) more = more
+both more y = more
 
-pub only_one : (xs ys : List Hit) (h : Hit) → only_of xs ≡ one h → only_of ys ≡ none → only_of (xs ++ ys) ≡ one h
-unfolding only_of any_of
-only_one [] ys h e f = absurd (subst (λ (z : Only Hit). Holds (any_of z)) (sym e) tt)
-only_one (x ∷ []) [] h e f = e
-only_one (x ∷ []) (y ∷ []) h e f = absurd (subst (λ (z : Only Hit). Holds (any_of z)) f tt)
-only_one (x ∷ []) (y ∷ (z ∷ zs)) h e f = absurd (subst (λ (u : Only Hit). Holds (any_of u)) f tt)
-only_one (x ∷ (y ∷ xs)) ys h e f = e
-
-abbrev is_more : Only Hit → Bool
-is_more none = false
-is_more (one h) = false
-is_more more = true
-
-pub only_more : (xs ys : List Hit) → only_of xs ≡ more → only_of (xs ++ ys) ≡ more
-unfolding only_of
-only_more [] ys e = absurd (subst (λ (z : Only Hit). Holds (is_more z)) (sym e) tt)
-only_more (x ∷ []) ys e = absurd (subst (λ (z : Only Hit). Holds (is_more z)) (sym e) tt)
-only_more (x ∷ (y ∷ xs)) ys e = refl
-
-pub only_both : (xs ys : List Hit) → any_of (only_of xs) ≡ true → any_of (only_of ys) ≡ true → only_of (xs ++ ys) ≡ more
-unfolding only_of any_of
-only_both [] ys e f = absurd (subst Holds (sym e) tt)
-only_both (x ∷ []) [] e f = absurd (subst Holds (sym f) tt)
-only_both (x ∷ []) (y ∷ ys) e f = refl
-only_both (x ∷ (y ∷ xs)) ys e f = refl
-
--- a match of the first is one of both
-pub any_append : (xs ys : List Hit) → any_of (only_of xs) ≡ true → any_of (only_of (xs ++ ys)) ≡ true
-unfolding only_of any_of
-any_append [] ys e = absurd (subst Holds (sym e) tt)
-any_append (x ∷ []) [] e = refl
-any_append (x ∷ []) (y ∷ ys) e = refl
-any_append (x ∷ (y ∷ xs)) ys e = refl
-
-pub any_none : (z : Only Hit) → any_of z ≡ false → z ≡ none
-unfolding any_of
-any_none none e = refl
-any_none (one h) e = absurd (subst Holds e tt)
-any_none more e = absurd (subst Holds e tt)
+pub only_both : (xs ys : List Hit) → only_of (xs ++ ys) ≡ both (only_of xs) (only_of ys)
+unfolding only_of both
+only_both [] ys = refl
+only_both (x ∷ []) [] = refl
+only_both (x ∷ []) (y ∷ []) = refl
+only_both (x ∷ []) (y ∷ (z ∷ zs)) = refl
+only_both (x ∷ (y ∷ xs)) ys = refl
 
 -- the answer from all scopes' classes is that from the class of the scope where the matches stand
 module _ (is : List Info) (name q a : ℕ) where

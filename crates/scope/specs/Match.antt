@@ -1,13 +1,13 @@
--- Matches as the code carries them: the answer of one scope; a table's matches as one number, the record of the column that has the name.
+-- Matches as the code carries them: the answer of one scope, and the columns of a table that have a name.
 -- Assumes nothing.
-use Rattle.std.specs.Prelude.{ℕ, ◌+◌, ◌-◌, ◌<◌, ◌≤◌, ◌≡◌, Bool, true, false, cond, List, [], ◌∷◌, eqb}
+use Rattle.std.specs.Prelude.{ℕ, ◌+◌, ◌-◌, ◌<◌, ◌≤◌, ◌≡◌, List, [], ◌∷◌, Option, Some, None}
 use Rattle.class.specs.declared.Info.{Info}
 use Rattle.catalogue.specs.Tables.{Table, column_at, cols_from, table_at}
-use Rattle.scope.specs.Scopes.{Hit, column, bound, Only, none, one, more, only_of, in_cols, in_table, in_tabs}
-use Rattle.scope.specs.Table.{tabs_at}
-use Rattle.scope.specs.declared.Scope.{Scope}
+use Rattle.scope.specs.Scopes.{Hit, column, bound, Only, none, one, more, only_of, in_cols, in_table}
 use Rattle.scope.specs.declared.Found.{Found}
 use Rattle.scope.specs.declared.Found.TheVariants as F
+use Rattle.scope.specs.declared.Matches.{Matches}
+use Rattle.scope.specs.declared.Matches.TheVariants as N
 
 -- the answer of one scope, whose local (if it has one) has a class of which this is known
 unfoldable pub found_in : Info → Only Hit → Found
@@ -16,32 +16,23 @@ found_in i (one (column a b c t k)) = F.Column a b c k.ty k.info t.row
 found_in i (one (bound a t)) = F.Local a t i
 found_in i more = F.Ambiguous
 
--- there is a match, or more than one
-unfoldable pub is_found : Found → Bool
-is_found (F.Column a b c t i r) = true
-is_found (F.Local a t i) = true
-is_found F.None = false
-is_found F.Ambiguous = true
+-- the matches among columns of a table, the first of which is that of record j: that column, and those after it
+unfoldable pub first_by : List ℕ → ℕ → ℕ → ℕ → ℕ → ℕ → ℕ → Table → Option ℕ → List Hit
+first_by c n i name a b k t None = []
+first_by c n i name a b k t (Some j) = column a b (k + (j - i)) t (column_at c j) ∷ in_cols name a b t (k + (j - i) + 1) (cols_from c (n - (j + 1)) (j + 1))
 
-unfoldable pub any_of : Only Hit → Bool
-any_of none = false
-any_of (one h) = true
-any_of more = true
+-- the columns that stand from record i on, of n records: r is the record of the first that has the name
+pub record FirstIs (c : List ℕ) (n i name : ℕ) (r : Option ℕ) : Type 0 where
+  pub past : (j : ℕ) → r ≡ Some j → (i ≤ j) × (j < n)
+  pub says : (a b k : ℕ) (t : Table) → in_cols name a b t k (cols_from c (n - i) i) ≡ first_by c n i name a b k t r
 
--- the columns that stand from record i on, of n records: r is the record of the first that has the name, and its matches are that column's and those after it; 0 where none has it
-pub record FirstIs (c : List ℕ) (n i name r : ℕ) : Type 0 where
-  pub small : r ≤ n
-  pub past : (r ≡ 0 → ⊥) → (i ≤ r) × (r < n)
-  pub says : (a b k : ℕ) (t : Table) → in_cols name a b t k (cols_from c (n - i) i)
-      ≡ cond (eqb r 0) [] (column a b (k + (r - i)) t (column_at c r) ∷ in_cols name a b t (k + (r - i) + 1) (cols_from c (n - (r + 1)) (r + 1)))
+-- the only match in the table of record t, where its columns that have the name are these
+unfoldable pub only_by : List ℕ → ℕ → ℕ → ℕ → ℕ → Matches → Only Hit
+only_by c n t a b N.None = none
+only_by c n t a b (N.One i) = one (column a b (i - (t + 1)) (table_at c n t) (column_at c i))
+only_by c n t a b N.Several = more
 
--- THE MATCH in the table of record t, of n records: r is the record of the one column that has the name; 0 where none has it, n where there are more
-pub record MatchIs (c : List ℕ) (n t name q r : ℕ) : Type 0 where
-  pub small : r ≤ n
-  pub past : (r ≡ 0 → ⊥) → t < r
-  pub says : (a b : ℕ) → only_of (in_table name q a b (table_at c n t))
-      ≡ cond (eqb r 0) none (cond (eqb r n) more (one (column a b (r - (t + 1)) (table_at c n t) (column_at c r))))
-
--- a block of so many tables: r says whether there is a match from table i on
-pub record AnyIs (c : List ℕ) (n : ℕ) (s : Scope) (count name q i : ℕ) (r : Bool) : Type 0 where
-  pub says : (a : ℕ) → r ≡ any_of (only_of (in_tabs name q a i (tabs_at c n s i (count - i))))
+-- THE MATCH in the table of record t, of n records: r is none, the record of the one column that has the name, or several
+pub record MatchIs (c : List ℕ) (n t name q : ℕ) (r : Matches) : Type 0 where
+  pub past : (i : ℕ) → r ≡ N.One i → (t < i) × (i < n)
+  pub says : (a b : ℕ) → only_of (in_table name q a b (table_at c n t)) ≡ only_by c n t a b r

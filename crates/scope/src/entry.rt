@@ -53,23 +53,14 @@ fn opened(places: [u16; 4], count: usize) -> Opened
 }
 
 // The name of a TABLE; 0 for any other node.
+#[tactic(auto, unfolding(view::specs::Parse::name_of))]
 fn name_of(node: view::Node) -> u16
     ensures { result ≡ name_of node }
 {
-    match node {
-        view::Node::Const(_, _) => 0,
-        view::Node::Binop(_) => 0,
-        view::Node::Not => 0,
-        view::Node::If => 0,
-        view::Node::Exists(_, _) => 0,
-        view::Node::Single(_, _) => 0,
-        view::Node::Table(name) => name,
-        view::Node::Select(_, _) => 0,
-        view::Node::Col(_, _) => 0,
-        view::Node::Classof(_, _) => 0,
-        view::Node::Let(_) => 0,
-        view::Node::Bad => 0,
-    }
+    let view::Node::Table(name) = node else {
+        return 0;
+    };
+    name
 }
 
 // The number among the tables of the one that TABLE record p names; `tables` where there is none.
@@ -108,15 +99,12 @@ pub fn open_block(
     ensures { result ≡ opened_by starts.now (tables_named (tables_from cat.now n n 0) (names_at view.now at count)) }
 {
     let mut places = [0u16; 4];
-    let mut j: usize = 0;
-    while j < count {
-        let p = at + j;
-        let k = table_number(cat, n, starts, tables, view, p);
+    for j in 0..count {
+        let k = table_number(cat, n, starts, tables, view, at + j);
         if tables <= k {
-            return missing(p);
+            return missing(at + j);
         }
         places[j] = starts[k];
-        j += 1;
     }
     opened(places, count)
 }
@@ -154,11 +142,8 @@ pub fn block_class(s: Scope, cat: &[u8], n: usize) -> u16
     ensures { result ≡ lub_all (classes_of (tables_in (open_of cat.now n s))) }
 {
     let mut k: u16 = 0;
-    let mut j = tables_in(s);
-    while 0 < j {
-        j -= 1;
-        let own = table_class_at(s, cat, n, j);
-        k = class::lub(own, k);
+    for j in (0..tables_in(s)).rev() {
+        k = class::lub(table_class_at(s, cat, n, j), k);
     }
     k
 }

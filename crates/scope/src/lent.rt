@@ -4,7 +4,7 @@ ghost use Rattle.std.specs.Prelude.{◌≡◌, ◌+◌, ◌*◌, ◌≤◌, ◌<
 ghost use Rattle.scope.specs.Scopes.{find};
 ghost use Rattle.scope.specs.Table.{scopes_of, infos_of, found_of};
 
-use crate::{Found, Scope, in_scope, is_found};
+use crate::{Found, Scope, in_scope};
 
 // One more scope open: its entry stands at place depth.
 pub fn push(scopes: &mut [Scope], depth: usize, s: Scope)
@@ -19,16 +19,12 @@ pub fn look_up(scopes: &[Scope], cat: &[u8], n: usize, depth: usize, name: u16, 
     requires { ((8 + 8 * n ≤ length cat.now) × (n ≤ 2080)) × ((depth ≤ length scopes.now) × (depth ≤ 16)) }
     ensures { result ≡ found_of (infos_of scopes.now depth) (find name q 0 (scopes_of cat.now n scopes.now depth)) }
 {
-    let mut d = depth;
-    let mut a: u16 = 0;
-    while 0 < d {
-        d -= 1;
-        let s = scopes[d];
-        let h = in_scope(s, cat, n, name, q, a);
-        if is_found(h) {
-            return h;
+    for outward in 0..depth {
+        let s = scopes[depth - outward - 1];
+        match in_scope(s, cat, n, name, q, outward as u16) {
+            Found::None => {}
+            found => return found,
         }
-        a += 1;
     }
     Found::None
 }

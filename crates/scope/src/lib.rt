@@ -7,15 +7,15 @@ mod held;
 mod lent;
 mod words;
 
-ghost use Rattle.std.specs.Prelude.{◌≡◌, ◌+◌, ◌-◌, ◌*◌, ◌≤◌, ◌<◌, length, set};
+ghost use Rattle.std.specs.Prelude.{◌≡◌, ◌+◌, ◌-◌, ◌*◌, ◌≤◌, ◌<◌, length, min, set};
 ghost use Rattle.class.specs.declared.Info.TheVariants.{Fixed};
 ghost use Rattle.class.specs.Info.{info_by};
 ghost use Rattle.word.specs.Record.{op_at, b_at};
 ghost use Rattle.catalogue.specs.Tables.{column_at};
 ghost use Rattle.scope.specs.Scopes.{only_of, in_tabs, in_scope, find};
 ghost use Rattle.scope.specs.Table.{tabs_at, open_of, scopes_of, infos_of, found_of};
-ghost use Rattle.scope.specs.Match.{found_in, is_found, FirstIs, MatchIs, AnyIs};
-ghost use Rattle.scope.specs.Words.{info_in};
+ghost use Rattle.scope.specs.Match.{found_in, FirstIs, MatchIs};
+ghost use Rattle.scope.specs.Words.{count_in, info_in};
 
 pub use entry::{block_class, local_scope, open_block, row_info, table_class_at, table_number};
 pub use held::{find_in, push_in, words_of};
@@ -48,67 +48,59 @@ pub struct Opened {
     pub scope: Scope,
 }
 
-// Whether there is a match, or more than one.
-fn is_found(x: Found) -> bool
-    ensures { result ≡ is_found x }
-{
-    match x {
-        Found::Column(_, _, _, _, _, _) => true,
-        Found::Local(_, _, _) => true,
-        Found::None => false,
-        Found::Ambiguous => true,
-    }
+// The columns of a table that have a name: none, the one column's record, or several.
+#[derive(Clone, Copy)]
+enum Matches {
+    None,
+    One(usize),
+    Several,
 }
 
-// The first record, from i on, of a column of this table that has the name; 0 where there is none.
-fn first_named(cat: &[u8], n: usize, i: usize, name: u16) -> usize
+// The first record, from i on, of a column of this table that has the name.
+fn first_named(cat: &[u8], n: usize, i: usize, name: u16) -> Option<usize>
     requires n_in_bounds { 8 + 8 * n ≤ length cat.now }
     requires le_i { 1 ≤ i }
     ensures { FirstIs cat.now n i name result }
 {
-    let mut j = i;
-    while j < n {
+    for j in i..n {
         if word::kind_at(cat, j) != 2 {
-            return 0;
+            return None;
         }
         if word::a_at(cat, j) == name {
-            return j;
+            return Some(j);
         }
-        j += 1;
     }
-    0
+    None
 }
 
-// The record of the one column of the table of record t that has the name; 0 where there is none, n where there are more.
-fn in_cols(cat: &[u8], n: usize, t: usize, name: u16) -> usize
+// The columns of the table of record t that have the name.
+fn in_cols(cat: &[u8], n: usize, t: usize, name: u16) -> Matches
     requires n_in_bounds { 8 + 8 * n ≤ length cat.now }
     requires t_lt_n { t < n }
     ensures { MatchIs cat.now n t name 0 result }
 {
-    let i = first_named(cat, n, t + 1, name);
-    if i == 0 {
-        return 0;
+    let Some(i) = first_named(cat, n, t + 1, name) else {
+        return Matches::None;
+    };
+    match first_named(cat, n, i + 1, name) {
+        Some(_) => Matches::Several,
+        None => Matches::One(i),
     }
-    let k = first_named(cat, n, i + 1, name);
-    if k == 0 {
-        return i;
-    }
-    n
 }
 
 // The same, if a qualified name may mean the table.
-fn in_table(cat: &[u8], n: usize, t: usize, name: u16, q: u16) -> usize
+fn in_table(cat: &[u8], n: usize, t: usize, name: u16, q: u16) -> Matches
     requires { 8 + 8 * n ≤ length cat.now }
     ensures { MatchIs cat.now n t name q result }
 {
     if n <= t {
-        return 0;
+        return Matches::None;
     }
-    let own = word::a_at(cat, t);
-    if (q == 0) | (own == q) {
-        return in_cols(cat, n, t, name);
+    if q == 0 || word::a_at(cat, t) == q {
+        in_cols(cat, n, t, name)
+    } else {
+        Matches::None
     }
-    0
 }
 
 // The match of the column of record i, which is one of the table of record t: a scopes outward, table b of its block.
@@ -124,44 +116,24 @@ fn column_at(cat: &[u8], t: usize, i: usize, a: u16, b: u16) -> Found
     Found::Column(a, b, c, ty, info, row)
 }
 
-// Whether a table of a block, from number i on, has the name.
-fn any_from(s: Scope, count: usize, cat: &[u8], n: usize, name: u16, q: u16, i: usize) -> bool
-    requires n_in_bounds { 8 + 8 * n ≤ length cat.now }
-    requires count_bound { count ≤ 4 }
-    ensures { AnyIs cat.now n s count name q i result }
-{
-    let mut j = i;
-    while j < count {
-        let t = table_in(s, j);
-        let k = in_table(cat, n, t, name, q);
-        if k != 0 {
-            return true;
-        }
-        j += 1;
-    }
-    false
-}
-
 // The tables of a block, by the numbers of their records.
-fn in_block(s: Scope, count: usize, cat: &[u8], n: usize, name: u16, q: u16, a: u16) -> Found
-    requires n_in_bounds { (8 + 8 * n ≤ length cat.now) × (n ≤ 2080) }
-    requires count_bound { count ≤ 4 }
-    ensures { result ≡ found_in (Fixed 0) (only_of (in_tabs name q a 0 (tabs_at cat.now n s 0 count))) }
+fn in_block(s: Scope, cat: &[u8], n: usize, name: u16, q: u16, a: u16) -> Found
+    requires { (8 + 8 * n ≤ length cat.now) × (n ≤ 2080) }
+    ensures { result ≡ found_in (Fixed 0) (only_of (in_tabs name q a 0 (tabs_at cat.now n s 0 (min (count_in s) 4)))) }
 {
-    let mut j: usize = 0;
-    while j < count {
+    let mut found = Found::None;
+    for j in 0..tables_in(s) {
         let t = table_in(s, j);
-        let i = in_table(cat, n, t, name, q);
-        if i != 0 {
-            let more = any_from(s, count, cat, n, name, q, j + 1);
-            if (i == n) | more {
-                return Found::Ambiguous;
-            }
-            return column_at(cat, t, i, a, j as u16);
+        match in_table(cat, n, t, name, q) {
+            Matches::None => {}
+            Matches::One(i) => match found {
+                Found::None => found = column_at(cat, t, i, a, j as u16),
+                _ => return Found::Ambiguous,
+            },
+            Matches::Several => return Found::Ambiguous,
         }
-        j += 1;
     }
-    Found::None
+    found
 }
 
 // What one entry has for a name.
@@ -180,7 +152,7 @@ fn in_scope(s: Scope, cat: &[u8], n: usize, name: u16, q: u16, a: u16) -> Found
         }
         return Found::None;
     }
-    in_block(s, tables_in(s), cat, n, name, q, a)
+    in_block(s, cat, n, name, q, a)
 }
 
 // The table with one more scope open: it is lent to `push` for one call.

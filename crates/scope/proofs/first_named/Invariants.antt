@@ -1,11 +1,7 @@
 -- `scope::first_named` meets its contract. The invariant: no column that was passed has the name.
 -- Assumes nothing.
 use Rattle.scope.proofs.Columns.{Unnamed}
-use Prim.Native.Nat.{◌-◌}
 use Rattle.scope.proofs.first_named.Given as goal
 
 abbrev pub invariant-loop-j : goal.invariant-loop-j
 invariant-loop-j l = Unnamed l.cat l.n l.i l.name l.j
-
-abbrev pub decreases-loop-j : goal.decreases-loop-j
-decreases-loop-j l = l.n - l.j

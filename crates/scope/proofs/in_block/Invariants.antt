@@ -1,11 +1,9 @@
--- `scope::in_block` meets its contract. The invariant: no table that was passed has the name.
+-- `scope::in_block` meets its contract. The invariant: what was found is the answer of the tables that were passed.
 -- Assumes nothing.
+use Prim.Native.Nat.{min}
+use Rattle.scope.specs.Words.{count_in}
 use Rattle.scope.proofs.Search.{Passed}
-use Prim.Native.Nat.{◌-◌}
 use Rattle.scope.proofs.in_block.Given as goal
 
 abbrev pub invariant-loop-j : goal.invariant-loop-j
-invariant-loop-j l = Passed l.cat l.n l.s l.count l.name l.q 0 l.j
-
-abbrev pub decreases-loop-j : goal.decreases-loop-j
-decreases-loop-j l = l.count - l.j
+invariant-loop-j l = Passed l.cat l.n l.s (min (count_in l.s) 4) l.name l.q l.a l.found l.j

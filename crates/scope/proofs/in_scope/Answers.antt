@@ -10,4 +10,4 @@ pub returns-then-count-eq0 : goal.returns-then-count-eq0
 returns-then-count-eq0 c = search entries
 
 pub returns : goal.returns
-returns c = block_whole _ _ _ _ _ _ _ _ _ c.count_in-count.ensures c.if-count-eq0.false c.tables_in.ensures c.in_block.ensures
+returns c = block_whole _ _ _ _ _ _ _ _ c.count_in-count.ensures c.if-count-eq0.false c.in_block.ensures

@@ -8,6 +8,3 @@ use Rattle.scope.proofs.entry.block_class.Given as goal
 
 abbrev pub invariant-loop-j : goal.invariant-loop-j
 invariant-loop-j l = (l.j ≤ min (count_in l.s) 4) × (l.k ≡ lub_left l.cat l.n l.s l.j)
-
-abbrev pub decreases-loop-j : goal.decreases-loop-j
-decreases-loop-j l = l.j

@@ -1,14 +1,11 @@
 -- `scope::look_up` meets its contract: each turn of its loop reads one entry out of the lent slice, the innermost first.
 -- Assumes nothing.
-use Rattle.std.proofs.Common.{◌≡◌, ◌+◌}
+use Rattle.std.proofs.Common.{◌≡◌, ◌-◌}
 use Rattle.scope.specs.Scopes.{find}
 use Rattle.scope.specs.Table.{scopes_of, infos_of, found_of}
 use Rattle.scope.proofs.Search.{scopes_left}
 use Rattle.scope.proofs.lent.look_up.Given as goal
 
-abbrev pub invariant-loop-d : goal.invariant-loop-d
-invariant-loop-d l =
-    (l.a + l.d ≡ l.depth) × (found_of (infos_of l.scopes l.depth) (find l.name l.q 0 (scopes_of l.cat l.n l.scopes l.depth)) ≡ scopes_left l.scopes l.cat l.n l.depth l.name l.q l.a l.d)
-
-abbrev pub decreases-loop-d : goal.decreases-loop-d
-decreases-loop-d l = l.d
+abbrev pub invariant-loop-outward : goal.invariant-loop-outward
+invariant-loop-outward l =
+    found_of (infos_of l.scopes l.depth) (find l.name l.q 0 (scopes_of l.cat l.n l.scopes l.depth)) ≡ scopes_left l.scopes l.cat l.n l.depth l.name l.q l.outward (l.depth - l.outward)
