@@ -11,8 +11,7 @@ use lib.IntN.{pos, nat_abs}
 use lib.ListN.{get_or}
 use lib.Signed.{mag}
 use Rattle.word.specs.Bytes.{bits32}
-use Rattle.word.specs.Record.{rec_at}
-use Rattle.word.specs.declared.Rec.{Rec}
+use Rattle.word.specs.Record.{Record, rec_at}
 use Rattle.word.proofs.Laws.{bits_signed, signed_small}
 use Rattle.cell.specs.Types.{digits_rule, in_rule}
 use Rattle.cell.specs.Values.{digits, number_in, HasTy, ok_null, ok_truth, ok_fixed, ok_time, ok_interval, ok_class}
@@ -25,7 +24,7 @@ use Rattle.view.proofs.Laws.{and_left, and_right}
 use Rattle.view.proofs.Says.{Says, says_null, says_truth, says_fixed, says_time, says_interval, says_class, says_node}
 
 -- a record whose fields are numbers of their widths
-pub record Small (r : Rec) : Type 0 where
+pub record Small (r : Record) : Type 0 where
   pub op_small : r.op < 256
   pub a_small : r.a < 65536
   pub b_small : r.b < 65536
@@ -51,7 +50,7 @@ three a b c e =
     (eqb-true a 0 (and_left (eqb a 0) (eqb b 0 && eqb c 0) e), h.0, h.1)
 
 -- the same record, field by field
-same : (r s : Rec) → r.kind ≡ s.kind → r.op ≡ s.op → r.a ≡ s.a → r.b ≡ s.b → r.c ≡ s.c → r ≡ s
+same : (r s : Record) → r.kind ≡ s.kind → r.op ≡ s.op → r.a ≡ s.a → r.b ≡ s.b → r.c ≡ s.c → r ≡ s
 same r s k o a b c = λ i. record { kind = k i; op = o i; a = a i; b = b i; c = c i }
 
 flag : (n : ℕ) → n ≤ 1 → n ≡ nat_abs (cond (eqb n 1) (pos 1) (pos 0))
@@ -59,7 +58,7 @@ flag zero h = refl
 flag (suc zero) h = refl
 flag (suc (suc n)) h = absurd (omega arith)
 
-module _ (r : Rec) (w : Small r) where
+module _ (r : Record) (w : Small r) where
   signed_word : ltb (mag (value_in r)) 2147483648 ≡ true
   signed_word = lt-ltb _ _ (signed_small (r.b + 65536 * r.c) (omega arith))
 
@@ -101,7 +100,7 @@ module _ (r : Rec) (w : Small r) where
   pub const_again : {t : Ty} {x : Value} → node_of r ≡ Const t x → r ≡ const_rec t x
   const_again e = again (says_node r e)
 
-ruled : (r : Rec) {t : Ty} {x : Value} → Says r (Const t x) → in_rule t ≡ true
+ruled : (r : Record) {t : Ty} {x : Value} → Says r (Const t x) → in_rule t ≡ true
 unfolding in_rule
 ruled r (says_null k e) = refl
 ruled r (says_truth k e) = refl
@@ -111,7 +110,7 @@ ruled r (says_interval k e) = refl
 ruled r (says_class k e) = refl
 
 -- a constant's type is in rule
-pub const_ruled : (r : Rec) {t : Ty} {x : Value} → node_of r ≡ Const t x → in_rule t ≡ true
+pub const_ruled : (r : Record) {t : Ty} {x : Value} → node_of r ≡ Const t x → in_rule t ≡ true
 const_ruled r e = ruled r (says_node r e)
 
 -- the same of record i of a view, as a pass holds it

@@ -1,4 +1,4 @@
--- How the code's answers tell what the parser said, and what the parser says of a value, a block and the root, by their parts.
+-- What the parser said, by the place or the refusal that it said; and what it says of a value, a block and the root, by their parts.
 -- Assumes nothing.
 use Prim.Native.Nat.{ℕ, zero, suc, ◌+◌, ◌-◌, ◌<◌, ◌≤◌}
 use mathlib.Core.Path.{◌≡◌, refl, sym, ap, ◌∙◌}
@@ -6,16 +6,13 @@ use mathlib.Core.Bool.{Bool, true, false, cond, ◌&&◌}
 use mathlib.Core.List.{List, ◌∷◌}
 use native.Mathlib.Omega.{arith}
 use lib.Dec.{eqb, ltb}
-use borrow.Author.Tests.{ltb-true, eqb-true, eq-eqb, ne_eqb}
+use borrow.Author.Tests.{ltb-true, ltb-false, eqb-true, eqb-false, eq-eqb, ne_eqb, lt-ltb, le-ltb}
+use Rattle.word.specs.Refusal.{Checked, fine, refusal}
 use Rattle.view.specs.Ast.{TabName, Exp, Block, Parsed, ok, refused, and_then}
 use Rattle.view.specs.Record.{node_at, slot_of}
-use Rattle.view.specs.Parse.{enter_node, enter, many, parse_table, parse_block, parse_node, parse_value, root_node, parse_root, met_of, walk_of}
+use Rattle.view.specs.Parse.{enter_node, enter, many, parse_table, parse_block, parse_node, parse_value, root_node, parse_root, peek_of, place_of}
 use Rattle.view.specs.declared.Node.{Node}
 use Rattle.view.specs.declared.Node.TheVariants.{Select}
-use Rattle.view.specs.declared.Met.{Met}
-use Rattle.view.specs.declared.Met.TheVariants as M
-use Rattle.view.specs.declared.Walk.{Walk}
-use Rattle.view.specs.declared.Walk.TheVariants as W
 
 -- a refusal is no ok
 pub refused_ok : {A : Type 0} {C : Type 0} {i j k : ℕ} {a : A} → refused i j ≡ ok a k → C
@@ -34,30 +31,20 @@ and_right false b e = absurd (let h : ◌≡◌ {A = ℕ} 0 1 = cc in omega arit
 pub above : (k n : ℕ) → k ≤ n → (n ≡ k → ⊥) → k + 1 ≤ n
 above k n h f = omega arith
 
--- the code's answers
-pub walk_next : {A : Type 0} (P : Parsed A) {r : Walk} {m : ℕ} → r ≡ walk_of P → r ≡ W.Next m → (a : A) × (P ≡ ok a m)
-unfolding walk_of
-walk_next (ok a k) {r} {m} e f = (a, ap (ok a) (let h : k ≡ m = cc in h))
-walk_next (refused k p) {r} {m} e f = absurd (let h : ◌≡◌ {A = ℕ} 0 1 = cc in omega arith)
+-- the parser's answer, by what it says but for the tree
+pub place_fine : {A : Type 0} (P : Parsed A) {m : ℕ} → fine m ≡ place_of P → (a : A) × (P ≡ ok a m)
+unfolding place_of
+place_fine (ok a k) {m} e = (a, ap (ok a) (let h : k ≡ m = cc in h))
+place_fine (refused i j) e = absurd (let h : ◌≡◌ {A = ℕ} 0 1 = cc in omega arith)
 
-pub walk_refused : {A : Type 0} (P : Parsed A) {r : Walk} {k p : ℕ} → r ≡ walk_of P → r ≡ W.Refused k p → P ≡ refused k p
-unfolding walk_of
-walk_refused (ok a j) {r} {k} {p} e f = absurd (let h : ◌≡◌ {A = ℕ} 0 1 = cc in omega arith)
-walk_refused (refused i j) {r} {k} {p} e f = let h : i ≡ k = cc in let g : j ≡ p = cc in cc
+pub place_refusal : {A : Type 0} (P : Parsed A) {k p : ℕ} → refusal k p ≡ place_of P → P ≡ refused k p
+unfolding place_of
+place_refusal (ok a j) e = absurd (let h : ◌≡◌ {A = ℕ} 0 1 = cc in omega arith)
+place_refusal (refused i j) {k} {p} e = let h : i ≡ k = cc in let g : j ≡ p = cc in cc
 
-pub met_refused : (P : Parsed Node) {r : Met} {k p : ℕ} → r ≡ met_of P → r ≡ M.Refused k p → P ≡ refused k p
-unfolding met_of
-met_refused (ok a j) {r} {k} {p} e f = absurd (let h : ◌≡◌ {A = ℕ} 0 1 = cc in omega arith)
-met_refused (refused i j) {r} {k} {p} e f = let h : i ≡ k = cc in let g : j ≡ p = cc in cc
-
-met_found : (P : Parsed Node) {r : Met} {node : Node} → r ≡ met_of P → r ≡ M.Found node → (k : ℕ) × (P ≡ ok node k)
-unfolding met_of
-met_found (ok a j) {r} {node} e f = (j, (let h : a ≡ node = cc in cc))
-met_found (refused i j) {r} {node} e f = absurd (let h : ◌≡◌ {A = ℕ} 0 1 = cc in omega arith)
-
-pub to_refused : {A : Type 0} {P : Parsed A} {k p : ℕ} → P ≡ refused k p → W.Refused k p ≡ walk_of P
-unfolding walk_of
-to_refused e = rw e
+pub to_refusal : {A : Type 0} {P : Parsed A} {k p : ℕ} → P ≡ refused k p → refusal k p ≡ place_of P
+unfolding place_of
+to_refusal e = rw e
 
 -- what an answer ok tells of the parts
 pub cond_refused : {A : Type 0} (b : Bool) (i j : ℕ) {P : Parsed A} {k : ℕ} {a : A} → cond b P (refused i j) ≡ ok a k → (b ≡ true) × (P ≡ ok a k)
@@ -89,11 +76,48 @@ enter_ok v n slot at {node} {k} e =
     let h : node_at v at ≡ node = cc in
     (ltb-true _ _ s.0, h, rw h at (eqb-true (slot_of (node_at v at)) slot u.0), (cc))
 
-pub enter_found : (v : List ℕ) (n slot at : ℕ) {r : Met} {node : Node} → r ≡ met_of (enter v n slot at) → r ≡ M.Found node → (enter v n slot at ≡ ok node (at + 1)) × (at < n)
-enter_found v n slot at e f =
-    let h = met_found (enter v n slot at) e f in
-    let g = enter_ok v n slot at h.1 in
-    (rw g.3 at h.1, g.0)
+-- the same, by the node that was found at the place, if any
+module _ (v : List ℕ) (n at : ℕ) where
+  peek_elim : {G : Type 0} {X : Checked Node} → X ≡ peek_of v n at
+      → (n ≤ at → X ≡ refusal 4 n → G)
+      → (at < n → slot_of (node_at v at) ≡ 0 → X ≡ refusal 3 at → G)
+      → (at < n → (slot_of (node_at v at) ≡ 0 → ⊥) → X ≡ fine (node_at v at) → G) → G
+  unfolding peek_of
+  peek_elim {G} {X} e early bad good = by (ltb at n) refl e
+    where
+      by : (b : Bool) → ltb at n ≡ b → X ≡ cond b (cond (eqb (slot_of (node_at v at)) 0) (refusal 3 at) (fine (node_at v at))) (refusal 4 n) → G
+      by false l h = early (ltb-false at n l) h
+      by true l h = by_slot (eqb (slot_of (node_at v at)) 0) refl h
+        where
+          by_slot : (b : Bool) → eqb (slot_of (node_at v at)) 0 ≡ b → X ≡ cond b (refusal 3 at) (fine (node_at v at)) → G
+          by_slot true z g = bad (ltb-true at n l) (eqb-true _ 0 z) g
+          by_slot false z g = good (ltb-true at n l) (eqb-false _ 0 z) g
+
+  -- no node: no slot can be entered
+  pub peek_refused : {k p : ℕ} (slot : ℕ) → refusal k p ≡ peek_of v n at → enter v n slot at ≡ refused k p
+  unfolding enter enter_node
+  peek_refused {k} {p} slot e =
+      peek_elim e
+      (λ l h. let a : k ≡ 4 = cc in let b : p ≡ n = cc in rw (a, b, le-ltb at n l))
+      (λ l z h. let a : k ≡ 3 = cc in let b : p ≡ at = cc in rw (a, b, lt-ltb at n l, z))
+      (λ l z h. absurd (let f : ◌≡◌ {A = ℕ} 0 1 = cc in omega arith))
+
+  -- a node
+  pub peek_found : {nd : Node} → fine nd ≡ peek_of v n at → (at < n) × (node_at v at ≡ nd) × (slot_of nd ≡ 0 → ⊥)
+  peek_found {nd} e =
+      peek_elim e
+      (λ l h. absurd (let f : ◌≡◌ {A = ℕ} 0 1 = cc in omega arith))
+      (λ l z h. absurd (let f : ◌≡◌ {A = ℕ} 0 1 = cc in omega arith))
+      (λ l z h. let f : node_at v at ≡ nd = cc in (l, f, rw f at z))
+
+  module _ {nd : Node} (e : fine nd ≡ peek_of v n at) where
+    pub enter_here : (slot : ℕ) → slot_of nd ≡ slot → enter v n slot at ≡ ok nd (at + 1)
+    unfolding enter enter_node
+    enter_here slot f = let (l, g, z) = peek_found e in rw (lt-ltb at n l, g, ne_eqb (slot_of nd) 0 z, eq-eqb (slot_of nd) slot f)
+
+    pub enter_elsewhere : (slot : ℕ) → (slot_of nd ≡ slot → ⊥) → enter v n slot at ≡ refused 4 at
+    unfolding enter enter_node
+    enter_elsewhere slot f = let (l, g, z) = peek_found e in rw (lt-ltb at n l, g, ne_eqb (slot_of nd) 0 z, ne_eqb (slot_of nd) slot f)
 
 -- a value, by the answer of enter
 pub value_refused : (v : List ℕ) (n d at : ℕ) {k p : ℕ} → enter v n 1 at ≡ refused k p → parse_value v n d at ≡ refused k p
@@ -111,30 +135,30 @@ unfolding parse_value and_then
 value_node v n zero at z e = absurd (z refl)
 value_node v n (suc d) at z e = let h : suc d - 1 ≡ d = omega arith in rw (e, h)
 
--- what is made of what was read does not show in the code's answer
-pub walk_map : {A B : Type 0} (P : Parsed A) (f : A → B) → walk_of (and_then P (λ a k. ok (f a) k)) ≡ walk_of P
-unfolding walk_of and_then
-walk_map (ok a k) f = refl
-walk_map (refused i j) f = refl
+-- what is made of what was read does not show in the place
+pub place_map : {A B : Type 0} (P : Parsed A) (f : A → B) → place_of (and_then P (λ a k. ok (f a) k)) ≡ place_of P
+unfolding place_of and_then
+place_map (ok a k) f = refl
+place_map (refused i j) f = refl
 
-walk_cong : {A B C : Type 0} (P : Parsed A) (f : A → ℕ → Parsed B) (g : A → ℕ → Parsed C) → ((a : A) (k : ℕ) → walk_of (f a k) ≡ walk_of (g a k)) → walk_of (and_then P f) ≡ walk_of (and_then P g)
-unfolding walk_of and_then
-walk_cong (ok a k) f g h = h a k
-walk_cong (refused i j) f g h = refl
+place_cong : {A B C : Type 0} (P : Parsed A) (f : A → ℕ → Parsed B) (g : A → ℕ → Parsed C) → ((a : A) (k : ℕ) → place_of (f a k) ≡ place_of (g a k)) → place_of (and_then P f) ≡ place_of (and_then P g)
+unfolding place_of and_then
+place_cong (ok a k) f g h = h a k
+place_cong (refused i j) f g h = refl
 
 -- one, two and three children are so many values in a row
 module _ (p : ℕ → Parsed Exp) where
-  pub one_walk : (at : ℕ) (f : Exp → Exp) → walk_of (and_then (p at) (λ x a. ok (f x) a)) ≡ walk_of (many p 1 at)
+  pub one_place : (at : ℕ) (f : Exp → Exp) → place_of (and_then (p at) (λ x a. ok (f x) a)) ≡ place_of (many p 1 at)
   unfolding many
-  one_walk at f = walk_cong (p at) _ _ (λ x a. (unfold walk_of and_then in refl))
+  one_place at f = place_cong (p at) _ _ (λ x a. (unfold place_of and_then in refl))
 
-  pub two_walk : (at : ℕ) (f : Exp → Exp → Exp) → walk_of (and_then (p at) (λ x a. and_then (p a) (λ y b. ok (f x y) b))) ≡ walk_of (many p 2 at)
+  pub two_place : (at : ℕ) (f : Exp → Exp → Exp) → place_of (and_then (p at) (λ x a. and_then (p a) (λ y b. ok (f x y) b))) ≡ place_of (many p 2 at)
   unfolding many
-  two_walk at f = walk_cong (p at) _ (λ x a. and_then (many p 1 a) (λ xs b. ok (x ∷ xs) b)) (λ x a. one_walk a (f x) ∙ sym (walk_map (many p 1 a) (λ xs. x ∷ xs)))
+  two_place at f = place_cong (p at) _ (λ x a. and_then (many p 1 a) (λ xs b. ok (x ∷ xs) b)) (λ x a. one_place a (f x) ∙ sym (place_map (many p 1 a) (λ xs. x ∷ xs)))
 
-  pub three_walk : (at : ℕ) (f : Exp → Exp → Exp → Exp) → walk_of (and_then (p at) (λ x a. and_then (p a) (λ y b. and_then (p b) (λ z c. ok (f x y z) c)))) ≡ walk_of (many p 3 at)
+  pub three_place : (at : ℕ) (f : Exp → Exp → Exp → Exp) → place_of (and_then (p at) (λ x a. and_then (p a) (λ y b. and_then (p b) (λ z c. ok (f x y z) c)))) ≡ place_of (many p 3 at)
   unfolding many
-  three_walk at f = walk_cong (p at) _ (λ x a. and_then (many p 2 a) (λ xs b. ok (x ∷ xs) b)) (λ x a. two_walk a (f x) ∙ sym (walk_map (many p 2 a) (λ xs. x ∷ xs)))
+  three_place at f = place_cong (p at) _ (λ x a. and_then (many p 2 a) (λ xs b. ok (x ∷ xs) b)) (λ x a. two_place a (f x) ∙ sym (place_map (many p 2 a) (λ xs. x ∷ xs)))
 
 -- so many in a row, as the loops count
 module _ {A : Type 0} (p : ℕ → Parsed A) where
@@ -148,17 +172,17 @@ module _ {A : Type 0} (p : ℕ → Parsed A) where
   many_next zero at z e = absurd (omega arith)
   many_next (suc c) at z e = let h : suc c - 1 ≡ c = omega arith in rw (e, h)
 
-  pub many_turn : (c i at : ℕ) {a : A} {m : ℕ} → i < c → p at ≡ ok a m → walk_of (many p (c - i) at) ≡ walk_of (many p (c - (i + 1)) m)
+  pub many_turn : (c i at : ℕ) {a : A} {m : ℕ} → i < c → p at ≡ ok a m → place_of (many p (c - i) at) ≡ place_of (many p (c - (i + 1)) m)
   many_turn c i at {a} {m} z e =
       let h : c - (i + 1) ≡ c - i - 1 = omega arith in
-      rw h (ap walk_of (many_next (c - i) at (omega arith) e) ∙ walk_map (many p (c - i - 1) m) (λ xs. a ∷ xs))
+      rw h (ap place_of (many_next (c - i) at (omega arith) e) ∙ place_map (many p (c - i - 1) m) (λ xs. a ∷ xs))
 
-  pub many_stop : (c i at : ℕ) {j k : ℕ} → i < c → p at ≡ refused j k → walk_of (many p (c - i) at) ≡ W.Refused j k
-  unfolding walk_of
+  pub many_stop : (c i at : ℕ) {j k : ℕ} → i < c → p at ≡ refused j k → place_of (many p (c - i) at) ≡ refusal j k
+  unfolding place_of
   many_stop c i at z e = rw (many_refused (c - i) at (omega arith) e)
 
-  pub many_end : (c i at : ℕ) → c ≤ i → walk_of (many p (c - i) at) ≡ W.Next at
-  unfolding walk_of many
+  pub many_end : (c i at : ℕ) → c ≤ i → place_of (many p (c - i) at) ≡ fine at
+  unfolding place_of many
   many_end c i at z = let h : c - i ≡ 0 = omega arith in rw h
 
 -- a block, by its parts
@@ -171,28 +195,24 @@ module _ (v : List ℕ) (n d : ℕ) (p : ℕ → Parsed Exp) (nt nv at : ℕ) wh
   unfolding parse_block and_then
   where_refused e f = rw (e, f)
 
-  pub where_next : {ts : List TabName} {w : Exp} {a b : ℕ} → many (parse_table v n d) nt at ≡ ok ts a → p a ≡ ok w b → walk_of (parse_block v n d p nt nv at) ≡ walk_of (many p nv b)
+  pub where_next : {ts : List TabName} {w : Exp} {a b : ℕ} → many (parse_table v n d) nt at ≡ ok ts a → p a ≡ ok w b → place_of (parse_block v n d p nt nv at) ≡ place_of (many p nv b)
   unfolding parse_block and_then
-  where_next {ts} {w} {a} {b} e f = rw (e, f) (walk_map (many p nv b) (λ vs. record { tables = ts; test = w; values = vs }))
+  where_next {ts} {w} {a} {b} e f = rw (e, f) (place_map (many p nv b) (λ vs. record { tables = ts; test = w; values = vs }))
 
 -- the root, by the answers of enter and block
 module _ (v : List ℕ) (n : ℕ) where
-  pub root_refused : {k p : ℕ} → enter v n 3 0 ≡ refused k p → walk_of (parse_root v n) ≡ W.Refused k p
-  unfolding parse_root and_then walk_of
+  pub root_refused : {k p : ℕ} → enter v n 3 0 ≡ refused k p → place_of (parse_root v n) ≡ refusal k p
+  unfolding parse_root and_then place_of
   root_refused e = rw e
 
-  pub root_block_refused : (a b : ℕ) {m k p : ℕ} → enter v n 3 0 ≡ ok (Select a b) m → parse_block v n 15 (parse_value v n 15) a b 1 ≡ refused k p → walk_of (parse_root v n) ≡ W.Refused k p
-  unfolding parse_root root_node and_then walk_of
+  pub root_block_refused : (a b : ℕ) {m k p : ℕ} → enter v n 3 0 ≡ ok (Select a b) m → parse_block v n 15 (parse_value v n 15) a b 1 ≡ refused k p → place_of (parse_root v n) ≡ refusal k p
+  unfolding parse_root root_node and_then place_of
   root_block_refused a b e f = rw (e, f)
 
-  pub root_end : (a b : ℕ) {m k : ℕ} {t : Block} → enter v n 3 0 ≡ ok (Select a b) m → parse_block v n 15 (parse_value v n 15) a b 1 ≡ ok t k → k ≡ n → walk_of (parse_root v n) ≡ W.Next k
-  unfolding parse_root root_node and_then walk_of
+  pub root_end : (a b : ℕ) {m k : ℕ} {t : Block} → enter v n 3 0 ≡ ok (Select a b) m → parse_block v n 15 (parse_value v n 15) a b 1 ≡ ok t k → k ≡ n → place_of (parse_root v n) ≡ fine k
+  unfolding parse_root root_node and_then place_of
   root_end a b {m} {k} e f g = rw (e, f, eq-eqb k n g)
 
-  pub root_more : (a b : ℕ) {m k : ℕ} {t : Block} → enter v n 3 0 ≡ ok (Select a b) m → parse_block v n 15 (parse_value v n 15) a b 1 ≡ ok t k → (k ≡ n → ⊥) → walk_of (parse_root v n) ≡ W.Refused 4 k
-  unfolding parse_root root_node and_then walk_of
+  pub root_more : (a b : ℕ) {m k : ℕ} {t : Block} → enter v n 3 0 ≡ ok (Select a b) m → parse_block v n 15 (parse_value v n 15) a b 1 ≡ ok t k → (k ≡ n → ⊥) → place_of (parse_root v n) ≡ refusal 4 k
+  unfolding parse_root root_node and_then place_of
   root_more a b {m} {k} e f g = rw (e, f, ne_eqb k n g)
-
-  -- no other node stands in the root's slot
-  pub root_other : {node : Node} {m : ℕ} {A : Type 0} → enter v n 3 0 ≡ ok node m → (slot_of node ≡ 3 → ⊥) → A
-  root_other e f = absurd (f (enter_ok v n 3 0 e).2)

@@ -2,14 +2,13 @@
 -- Assumes nothing.
 pub mod Children
 pub mod Constants
-pub mod Forms
 pub mod Induction
 pub mod Laws
 pub mod Nodes
 pub mod Read
-pub mod Readers
 pub mod Samples
 pub mod Says
+pub mod Shapes
 pub mod Sound
 pub mod Turns
 pub mod Whole

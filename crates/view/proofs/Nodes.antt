@@ -11,50 +11,25 @@ use borrow.Author.Rules.{rules}
 use lib.Dec.{eqb, leb, ltb}
 use lib.IntN.{ℤ, nat_abs}
 use Rattle.word.specs.Bytes.{signed32, within}
-use Rattle.word.specs.Record.{kind_at, op_at, a_at, b_at, c_at, rec_at}
-use Rattle.word.specs.declared.Rec.{Rec}
+use Rattle.word.specs.Record.{Record, kind_at, op_at, a_at, b_at, c_at, rec_at}
 use Rattle.word.proofs.Laws.{signed_low, signed_high}
 use Rattle.cell.specs.Types.{digits_rule}
 use Rattle.cell.specs.Values.{digits}
 use Rattle.cell.specs.declared.Type.TheVariants as T
 use Rattle.cell.specs.declared.Value.TheVariants as X
-use Rattle.view.specs.Record.{rec, when, bare, op_only, a_only, counts, const_of, node_of, node_at}
+use Rattle.view.specs.Record.{rec, when, bare, op_only, a_only, counts, value_in, const_of, node_of}
 use Rattle.view.specs.declared.Node.{Node}
 use Rattle.view.specs.declared.Fold.TheVariants as fold
 use Rattle.view.specs.declared.Pick.TheVariants as pick
 use Rattle.view.specs.declared.Node.TheVariants.{Const, Binop, Not, If, Exists, Single, Table, Select, Col, Classof, Let, Bad}
 use Rattle.view.proofs.Laws.{above, and_left, and_right}
 
--- the magnitude of a signed value, by its bits
-pub size_low : (n : ℕ) → n < 2147483648 → n ≡ nat_abs (signed32 n)
-size_low n h = rw (signed_low n h)
-
-pub size_high : (n : ℕ) → 2147483648 ≤ n → 4294967295 - n + 1 ≡ nat_abs (signed32 n)
-size_high n h = rw (signed_high n h) (omega arith)
-
--- 10^9, where p is none of 0 to 8
-pub ten_nine : (p : ℕ) → p ≤ 9 → (p ≡ 0 → ⊥) → (p ≡ 1 → ⊥) → (p ≡ 2 → ⊥) → (p ≡ 3 → ⊥) → (p ≡ 4 → ⊥) → (p ≡ 5 → ⊥) → (p ≡ 6 → ⊥) → (p ≡ 7 → ⊥) → (p ≡ 8 → ⊥) → 1000000000 ≡ 10 ^ p
-ten_nine p h a b c d e f g i j =
-    let low = above 3 p (above 2 p (above 1 p (above 0 p (omega arith) a) b) c) d in
-    let high = above 8 p (above 7 p (above 6 p (above 5 p (above 4 p low e) f) g) i) j in
-    rw (le_antisymm h high)
-
 -- p is at most 9 where (p, s) is in rule
 pub rule_few : (p s : ℕ) {o : Bool} → o ≡ digits_rule p s → o ≡ true → p ≤ 9
 unfolding digits_rule
 rule_few p s e t = leb-true p 9 (and_right (leb 1 p) (leb p 9) (and_left (leb 1 p && leb p 9) _ (sym e ∙ t)))
 
--- a FIXED's rule, by the answers of its parts
-module _ (p s n : ℕ) {o : Bool} (e : o ≡ digits_rule p s) where
-  pub fixed_in : {x y : ℕ} → o ≡ true → x ≡ nat_abs (signed32 n) → y ≡ 10 ^ p → ltb x y ≡ (digits_rule p s && digits p (signed32 n))
-  fixed_in t f g = rw (← e, t, f, g)
-
-  pub fixed_out : o ≡ false → false ≡ (digits_rule p s && digits p (signed32 n))
-  fixed_out t = rw (← e, t)
-
-pub ruleset fixed = (rule_few, fixed_in, fixed_out, rules)
-
-module _ (r : Rec) where
+module _ (r : Record) where
   -- kinds 1 to 6
   pub const_null : {o : Bool} {x : Node} → r.kind ≡ 1 → o ≡ bare r → x ≡ when o (Const T.Null X.Null) → x ≡ const_of r
   unfolding const_of
@@ -64,21 +39,18 @@ module _ (r : Rec) where
   unfolding const_of
   const_truth k e f = f ∙ rw (k, e)
 
-  pub const_fixed : {o : Bool} {n : ℕ} {z : ℤ} {x : Node} → r.kind ≡ 3 → n ≡ r.b + 65536 * r.c → z ≡ signed32 n
-      → o ≡ (digits_rule (r.op / 16) (r.op % 16) && digits (r.op / 16) (signed32 n))
+  pub const_fixed : {o : Bool} {z : ℤ} {x : Node} → r.kind ≡ 3 → z ≡ value_in r → o ≡ (digits_rule (r.op / 16) (r.op % 16) && digits (r.op / 16) (value_in r))
       → x ≡ when (eqb r.a 0 && o) (Const (T.Fixed (r.op / 16) (r.op % 16)) (X.Fixed (r.op % 16) z)) → x ≡ const_of r
   unfolding const_of
-  const_fixed k b z e f = f ∙ rw (k, e, z, b)
+  const_fixed k z e f = f ∙ rw (k, e, z)
 
-  pub const_time : {n : ℕ} {z : ℤ} {x : Node} → r.kind ≡ 4 → n ≡ r.b + 65536 * r.c → z ≡ signed32 n
-      → x ≡ when (eqb r.a 0) (Const (T.Time r.op) (X.Time z)) → x ≡ const_of r
+  pub const_time : {z : ℤ} {x : Node} → r.kind ≡ 4 → z ≡ value_in r → x ≡ when (eqb r.a 0) (Const (T.Time r.op) (X.Time z)) → x ≡ const_of r
   unfolding const_of
-  const_time k b z f = f ∙ rw (k, z, b)
+  const_time k z f = f ∙ rw (k, z)
 
-  pub const_interval : {n : ℕ} {z : ℤ} {x : Node} → r.kind ≡ 5 → n ≡ r.b + 65536 * r.c → z ≡ signed32 n
-      → x ≡ when (eqb r.a 0) (Const (T.Interval r.op) (X.Interval z)) → x ≡ const_of r
+  pub const_interval : {z : ℤ} {x : Node} → r.kind ≡ 5 → z ≡ value_in r → x ≡ when (eqb r.a 0) (Const (T.Interval r.op) (X.Interval z)) → x ≡ const_of r
   unfolding const_of
-  const_interval k b z f = f ∙ rw (k, z, b)
+  const_interval k z f = f ∙ rw (k, z)
 
   pub const_class : {o : Bool} {x : Node} → (r.kind ≡ 1 → ⊥) → (r.kind ≡ 2 → ⊥) → (r.kind ≡ 3 → ⊥) → (r.kind ≡ 4 → ⊥) → (r.kind ≡ 5 → ⊥)
       → o ≡ a_only r → x ≡ when o (Const T.Class (X.Class r.a)) → x ≡ const_of r
@@ -170,8 +142,4 @@ module _ (r : Rec) where
         ne_eqb r.kind 30 n,
       )
 
-pub node_here : (v : List ℕ) (i : ℕ) {k o a b c : ℕ} {x : Node} → k ≡ kind_at v i → o ≡ op_at v i → a ≡ a_at v i → b ≡ b_at v i → c ≡ c_at v i → x ≡ node_of (rec k o a b c) → x ≡ node_at v i
-unfolding node_at rec_at
-node_here v i d e f g h z = z ∙ rw (d, e, f, g, h)
-
-pub ruleset nodes = (const_null, const_truth, const_fixed, const_time, const_interval, const_class, node_const, node_binop, node_not, node_if, node_exists, node_single, node_table, node_select, node_col, node_classof, node_let, node_count, node_greatest, node_least, node_low, node_high, node_here, rules)
+pub ruleset nodes = (const_null, const_truth, const_fixed, const_time, const_interval, const_class, node_const, node_binop, node_not, node_if, node_exists, node_single, node_table, node_select, node_col, node_classof, node_let, node_count, node_greatest, node_least, node_low, node_high, rules)

@@ -5,15 +5,14 @@ use mathlib.Core.Path.{◌≡◌, refl}
 use mathlib.Core.List.{List, [], ◌∷◌, ◌++◌}
 use lib.ListN.{length}
 use Rattle.word.specs.Bytes.{signed32, le16}
+use Rattle.word.specs.Refusal.{Checked, fine, refusal}
 use Rattle.word.specs.Header.{drq, drc, headed, header}
 use Rattle.word.specs.Record.{rec_at, rec_bytes}
 use Rattle.cell.specs.Types.{digits_rule}
 use Rattle.view.specs.Ast.{Block, ok, and_then, first_of}
 use Rattle.view.specs.Ast as ast
 use Rattle.view.specs.Record.{const_of, node_of, node_at, slot_of}
-use Rattle.view.specs.Parse.{enter_node, enter, many, name_of, parse_table, parse_block, parse_node, parse_value, root_node, parse_root, parse_view, verdict_of, check_of}
-use Rattle.view.specs.declared.Verdict.{Verdict}
-use Rattle.view.specs.declared.Verdict.TheVariants.{Records, Refused}
+use Rattle.view.specs.Parse.{enter_node, enter, many, name_of, parse_table, parse_block, parse_node, parse_value, root_node, parse_root, parse_view, place_of, check_of}
 
 -- the bytes of records, and a view of them
 bytes : List (List ℕ) → List ℕ
@@ -72,34 +71,34 @@ views =
     ∷ worked
     ∷ []
 
-check_all : List (List ℕ) → List Verdict
+check_all : List (List ℕ) → List (Checked ℕ)
 check_all [] = []
 check_all (v ∷ vs) = check_of v ∷ check_all vs
 
 -- THE TABLE
 worked_views : check_all views ≡
-    Refused 1 0
-    ∷ Refused 1 0
-    ∷ Refused 1 0
-    ∷ Refused 2 0
-    ∷ Refused 2 0
-    ∷ Refused 3 0
-    ∷ Refused 3 0
-    ∷ Refused 3 0
-    ∷ Refused 3 1
-    ∷ Refused 3 2
-    ∷ Refused 3 3
-    ∷ Records 4
-    ∷ Refused 4 0
-    ∷ Refused 4 1
-    ∷ Refused 4 2
-    ∷ Refused 4 3
-    ∷ Refused 4 4
-    ∷ Records 18
-    ∷ Refused 5 17
-    ∷ Records 5
+    refusal 1 0
+    ∷ refusal 1 0
+    ∷ refusal 1 0
+    ∷ refusal 2 0
+    ∷ refusal 2 0
+    ∷ refusal 3 0
+    ∷ refusal 3 0
+    ∷ refusal 3 0
+    ∷ refusal 3 1
+    ∷ refusal 3 2
+    ∷ refusal 3 3
+    ∷ fine 4
+    ∷ refusal 4 0
+    ∷ refusal 4 1
+    ∷ refusal 4 2
+    ∷ refusal 4 3
+    ∷ refusal 4 4
+    ∷ fine 18
+    ∷ refusal 5 17
+    ∷ fine 5
     ∷ []
-unfolding bytes view select table col neg fixed nots worked views check_all signed32 le16 headed header rec_at rec_bytes digits_rule and_then first_of const_of node_of node_at slot_of enter_node enter many name_of parse_table parse_block parse_node parse_value root_node parse_root parse_view verdict_of check_of
+unfolding bytes view select table col neg fixed nots worked views check_all signed32 le16 headed header rec_at rec_bytes digits_rule and_then first_of const_of node_of node_at slot_of enter_node enter many name_of parse_table parse_block parse_node parse_value root_node parse_root parse_view place_of check_of
 worked_views = refl
 
 -- the worked view's syntax tree

@@ -8,8 +8,7 @@ use native.Mathlib.Nat.{le_antisymm}
 use borrow.Author.Tests.{eqb-true, eqb-false, leb-true}
 use lib.Dec.{eqb, leb}
 use Rattle.word.specs.Bytes.{within}
-use Rattle.word.specs.Record.{a_at, b_at, rec_at}
-use Rattle.word.specs.declared.Rec.{Rec}
+use Rattle.word.specs.Record.{Record, a_at, b_at, rec_at}
 use Rattle.cell.specs.Types.{digits_rule}
 use Rattle.cell.specs.Values.{digits}
 use Rattle.cell.specs.declared.Type.TheVariants as T
@@ -24,7 +23,7 @@ use Rattle.view.specs.declared.Node.TheVariants.{Const, Binop, Not, If, Exists, 
 use Rattle.view.proofs.Laws.{above, and_left, and_right}
 
 -- a node that a record says, with its kind and the test of its fields
-pub data Says (r : Rec) : Node → Type 0 where
+pub data Says (r : Record) : Node → Type 0 where
   says_null : r.kind ≡ 1 → bare r ≡ true → Says r (Const T.Null X.Null)
   says_truth : r.kind ≡ 2 → (leb r.op 1 && op_only r) ≡ true → Says r (Const T.Boolean (X.Truth (eqb r.op 1)))
   says_fixed : r.kind ≡ 3 → (eqb r.a 0 && (digits_rule (r.op / 16) (r.op % 16) && digits (r.op / 16) (value_in r))) ≡ true
@@ -52,7 +51,7 @@ six k e a b c d f =
     let low = above 2 k (above 1 k (leb-true 1 k (and_left (leb 1 k) (leb k 6) e)) a) b in
     le_antisymm (leb-true k 6 (and_right (leb 1 k) (leb k 6) e)) (above 5 k (above 4 k (above 3 k low c) d) f)
 
-module _ (r : Rec) where
+module _ (r : Record) where
   is : (k : ℕ) {x y : Node} → (r.kind ≡ k → Says r x) → ((r.kind ≡ k → ⊥) → Says r y) → Says r (cond (eqb r.kind k) x y)
   is k {x} {y} f g = go (eqb r.kind k) refl
     where
@@ -110,39 +109,39 @@ inside lo hi x b e =
 some : (x : ℕ) (b : Bool) → (leb 1 x && b) ≡ true → 1 ≤ x
 some x b e = leb-true 1 x (and_left (leb 1 x) b e)
 
-binop_says : (r : Rec) {op : ℕ} → Says r (Binop op) → (1 ≤ op) × (op ≤ 12)
+binop_says : (r : Record) {op : ℕ} → Says r (Binop op) → (1 ≤ op) × (op ≤ 12)
 binop_says r (says_binop k e) = inside 1 12 r.op (op_only r) e
 
-exists_says : (r : Rec) {a : ℕ} {q : Fold} → Says r (Exists a q) → (1 ≤ a) × (a ≤ 4)
+exists_says : (r : Record) {a : ℕ} {q : Fold} → Says r (Exists a q) → (1 ≤ a) × (a ≤ 4)
 exists_says r (says_exists k e) = inside 1 4 r.a (a_only r) e
 exists_says r (says_count k e) = inside 1 4 r.a (counts r) e
 
-digits_says : (r : Rec) {a p : ℕ} → Says r (Exists a (fold.Count p)) → (1 ≤ p) × (p ≤ 9)
+digits_says : (r : Record) {a p : ℕ} → Says r (Exists a (fold.Count p)) → (1 ≤ p) × (p ≤ 9)
 digits_says r (says_count k e) =
     inside 1 9 (r.op / 16) (eqb (r.op % 16) 0 && (eqb r.b 0 && eqb r.c 0)) (and_right (within 1 4 r.a) (counts r) e)
 
-single_says : (r : Rec) {a : ℕ} {q : Pick} → Says r (Single a q) → (1 ≤ a) × (a ≤ 4)
+single_says : (r : Record) {a : ℕ} {q : Pick} → Says r (Single a q) → (1 ≤ a) × (a ≤ 4)
 single_says r (says_single k e) = inside 1 4 r.a (a_only r) e
 single_says r (says_greatest k e) = inside 1 4 r.a (a_only r) e
 single_says r (says_least k e) = inside 1 4 r.a (a_only r) e
 
-table_says : (r : Rec) {name : ℕ} → Says r (Table name) → (1 ≤ name) × (name ≡ r.a)
+table_says : (r : Record) {name : ℕ} → Says r (Table name) → (1 ≤ name) × (name ≡ r.a)
 table_says r (says_table k e) = (some r.a (a_only r) e, refl)
 
-select_says : (r : Rec) {a b : ℕ} → Says r (Select a b) → (1 ≤ a) × (a ≤ 4) × (1 ≤ b) × (b ≤ 32)
+select_says : (r : Record) {a b : ℕ} → Says r (Select a b) → (1 ≤ a) × (a ≤ 4) × (1 ≤ b) × (b ≤ 32)
 select_says r (says_select k e) =
     let h = and_left (within 1 4 r.a && within 1 32 r.b) (eqb r.op 0 && eqb r.c 0) e in
     let i = inside 1 4 r.a (within 1 32 r.b) h in
     let j = and_right (within 1 4 r.a) (within 1 32 r.b) h in
     (i.0, i.1, leb-true 1 r.b (and_left (leb 1 r.b) (leb r.b 32) j), leb-true r.b 32 (and_right (leb 1 r.b) (leb r.b 32) j))
 
-col_says : (r : Rec) {name q : ℕ} → Says r (Col name q) → (1 ≤ name) × (name ≡ r.a) × (q ≡ r.b)
+col_says : (r : Record) {name q : ℕ} → Says r (Col name q) → (1 ≤ name) × (name ≡ r.a) × (q ≡ r.b)
 col_says r (says_col k e) = (some r.a (eqb r.op 0 && eqb r.c 0) e, refl, refl)
 
-classof_says : (r : Rec) {name q : ℕ} → Says r (Classof name q) → (1 ≤ name) × (name ≡ r.a) × (q ≡ r.b)
+classof_says : (r : Record) {name q : ℕ} → Says r (Classof name q) → (1 ≤ name) × (name ≡ r.a) × (q ≡ r.b)
 classof_says r (says_classof k e) = (some r.a (eqb r.op 0 && eqb r.c 0) e, refl, refl)
 
-let_says : (r : Rec) {name : ℕ} → Says r (Let name) → (1 ≤ name) × (name ≡ r.a)
+let_says : (r : Record) {name : ℕ} → Says r (Let name) → (1 ≤ name) × (name ≡ r.a)
 let_says r (says_let k e) = (some r.a (a_only r) e, refl)
 
 -- the same of record i of a view, as a pass holds it: the node was taken from there, and is of this kind

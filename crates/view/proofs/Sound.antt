@@ -9,18 +9,17 @@ use borrow.Author.Rules.{rules}
 use lib.Dec.{eqb, leb}
 use lib.IntN.{ℤ}
 use Rattle.word.specs.Bytes.{signed32, within}
-use Rattle.word.specs.Record.{kind_at, op_at, a_at, b_at, c_at}
-use Rattle.word.specs.declared.Rec.{Rec}
+use Rattle.word.specs.Record.{Record, kind_at, op_at, a_at, b_at, c_at}
 use Rattle.cell.specs.declared.Type.TheVariants as T
 use Rattle.cell.specs.declared.Value.TheVariants as X
 use Rattle.cell.specs.Types.{digits_rule}
 use Rattle.cell.specs.Values.{digits}
-use Rattle.view.specs.Record.{rec, when, bare, op_only, a_only, counts, const_of, node_of, node_at, slot_of}
+use Rattle.view.specs.Record.{when, bare, op_only, a_only, counts, value_in, const_of, node_of, slot_of}
 use Rattle.view.specs.declared.Node.{Node}
 use Rattle.view.specs.declared.Fold.TheVariants as fold
 use Rattle.view.specs.declared.Pick.TheVariants as pick
 use Rattle.view.specs.declared.Node.TheVariants.{Const, Binop, Not, If, Exists, Single, Table, Select, Col, Classof, Let}
-use Rattle.view.proofs.Nodes.{const_null, const_truth, const_fixed, const_time, const_interval, const_class, node_const, node_binop, node_not, node_if, node_exists, node_single, node_table, node_select, node_col, node_classof, node_let, node_count, node_greatest, node_least, node_here}
+use Rattle.view.proofs.Nodes.{const_null, const_truth, const_fixed, const_time, const_interval, const_class, node_const, node_binop, node_not, node_if, node_exists, node_single, node_table, node_select, node_col, node_classof, node_let, node_count, node_greatest, node_least, node_low, node_high}
 
 -- a node that may stand in a value's place is no bad one
 kept : (o : Bool) (x : Node) {y : Node} → when o x ≡ y → slot_of y ≡ 1 → x ≡ y
@@ -28,7 +27,7 @@ unfolding slot_of
 kept true x e s = e
 kept false x e s = absurd (let h : ◌≡◌ {A = ℕ} 0 1 = ap slot_of e ∙ s in omega arith)
 
-module _ (r : Rec) where
+module _ (r : Record) where
   -- kinds 1 to 6
   pub sound_null : r.kind ≡ 1 → slot_of (const_of r) ≡ 1 → Const T.Null X.Null ≡ const_of r
   sound_null k s = kept (bare r) _ (const_null r k refl refl) s
@@ -36,14 +35,14 @@ module _ (r : Rec) where
   pub sound_truth : r.kind ≡ 2 → slot_of (const_of r) ≡ 1 → Const T.Boolean (X.Truth (eqb r.op 1)) ≡ const_of r
   sound_truth k s = kept (leb r.op 1 && op_only r) _ (const_truth r k refl refl) s
 
-  pub sound_fixed : {n : ℕ} {z : ℤ} → r.kind ≡ 3 → n ≡ r.b + 65536 * r.c → z ≡ signed32 n → slot_of (const_of r) ≡ 1 → Const (T.Fixed (r.op / 16) (r.op % 16)) (X.Fixed (r.op % 16) z) ≡ const_of r
-  sound_fixed k b z s = kept (eqb r.a 0 && (digits_rule (r.op / 16) (r.op % 16) && digits (r.op / 16) (signed32 _))) _ (const_fixed r k b z refl refl) s
+  pub sound_fixed : {z : ℤ} → r.kind ≡ 3 → z ≡ value_in r → slot_of (const_of r) ≡ 1 → Const (T.Fixed (r.op / 16) (r.op % 16)) (X.Fixed (r.op % 16) z) ≡ const_of r
+  sound_fixed k z s = kept (eqb r.a 0 && (digits_rule (r.op / 16) (r.op % 16) && digits (r.op / 16) (value_in r))) _ (const_fixed r k z refl refl) s
 
-  pub sound_time : {n : ℕ} {z : ℤ} → r.kind ≡ 4 → n ≡ r.b + 65536 * r.c → z ≡ signed32 n → slot_of (const_of r) ≡ 1 → Const (T.Time r.op) (X.Time z) ≡ const_of r
-  sound_time k b z s = kept (eqb r.a 0) _ (const_time r k b z refl) s
+  pub sound_time : {z : ℤ} → r.kind ≡ 4 → z ≡ value_in r → slot_of (const_of r) ≡ 1 → Const (T.Time r.op) (X.Time z) ≡ const_of r
+  sound_time k z s = kept (eqb r.a 0) _ (const_time r k z refl) s
 
-  pub sound_interval : {n : ℕ} {z : ℤ} → r.kind ≡ 5 → n ≡ r.b + 65536 * r.c → z ≡ signed32 n → slot_of (const_of r) ≡ 1 → Const (T.Interval r.op) (X.Interval z) ≡ const_of r
-  sound_interval k b z s = kept (eqb r.a 0) _ (const_interval r k b z refl) s
+  pub sound_interval : {z : ℤ} → r.kind ≡ 5 → z ≡ value_in r → slot_of (const_of r) ≡ 1 → Const (T.Interval r.op) (X.Interval z) ≡ const_of r
+  sound_interval k z s = kept (eqb r.a 0) _ (const_interval r k z refl) s
 
   pub sound_class : (r.kind ≡ 1 → ⊥) → (r.kind ≡ 2 → ⊥) → (r.kind ≡ 3 → ⊥) → (r.kind ≡ 4 → ⊥) → (r.kind ≡ 5 → ⊥) → slot_of (const_of r) ≡ 1 → Const T.Class (X.Class r.a) ≡ const_of r
   sound_class k l m i j s = kept (a_only r) _ (const_class r k l m i j refl refl) s
@@ -91,8 +90,4 @@ module _ (r : Rec) where
   pub sound_least : r.kind ≡ 30 → slot_of (node_of r) ≡ 1 → Single r.a pick.Least ≡ node_of r
   sound_least k s = kept (within 1 4 r.a && a_only r) _ (node_least r k refl refl refl) s
 
--- the fields of record i
-pub sound_slot : (v : List ℕ) (i : ℕ) {k o a b c : ℕ} → k ≡ kind_at v i → o ≡ op_at v i → a ≡ a_at v i → b ≡ b_at v i → c ≡ c_at v i → slot_of (node_at v i) ≡ 1 → slot_of (node_of (rec k o a b c)) ≡ 1
-sound_slot v i d e f g h s = ap slot_of (node_here v i d e f g h refl) ∙ s
-
-pub ruleset sound = (const_slot, node_here, sound_slot, rules)
+pub ruleset sound = (node_const, sound_null, sound_truth, sound_fixed, sound_time, sound_interval, sound_class, const_slot, sound_binop, sound_not, sound_if, sound_exists, sound_single, sound_table, sound_select, sound_col, sound_classof, sound_let, sound_count, sound_greatest, sound_least, node_low, node_high, rules)

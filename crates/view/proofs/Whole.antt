@@ -9,28 +9,17 @@ use lib.ListN.{length}
 use lib.Dec.{eqb, leb}
 use borrow.Author.Tests.{eqb-true, leb-true}
 use Rattle.word.specs.Bytes.{within}
+use Rattle.word.specs.Refusal.{Checked, fine, refusal}
 use Rattle.word.specs.Header.{drq, headed, count_at}
 use Rattle.view.specs.Ast.{Block, Parsed, ok, refused, WasRead}
 use Rattle.view.specs.Record.{node_at, slot_of}
-use Rattle.view.specs.Parse.{enter, parse_block, parse_value, root_node, parse_root, parse_view, verdict_of, check_of}
+use Rattle.view.specs.Parse.{enter, parse_block, parse_value, root_node, parse_root, parse_view, place_of, check_of}
 use Rattle.view.specs.declared.Node.{Node}
 use Rattle.view.specs.declared.Node.TheVariants.{Const, Binop, Not, If, Exists, Single, Table, Select, Col, Classof, Let, Bad}
-use Rattle.view.specs.declared.Verdict.{Verdict}
-use Rattle.view.specs.declared.Verdict.TheVariants as Out
-use Rattle.view.proofs.Laws.{and_left, and_right, cond_refused, then_ok, enter_ok}
+use Rattle.view.proofs.Laws.{and_left, and_right, cond_refused, then_ok, enter_ok, place_fine, place_refusal}
 use Rattle.view.proofs.Says.{select_few}
+use Rattle.view.proofs.Shapes.{slot_select}
 use Rattle.view.proofs.Read.{InBlock, block_ok, was_read}
-
--- the check's answer and the parser's
-pub verdict_records : {A : Type 0} (P : Parsed A) {r : Verdict} {m : ℕ} → r ≡ verdict_of P → r ≡ Out.Records m → (a : A) × (P ≡ ok a m)
-unfolding verdict_of
-verdict_records (ok a k) {r} {m} e f = (a, ap (ok a) (let h : k ≡ m = cc in h))
-verdict_records (refused i j) e f = absurd (let h : ◌≡◌ {A = ℕ} 0 1 = cc in omega arith)
-
-pub verdict_refused : {A : Type 0} (P : Parsed A) {r : Verdict} {k p : ℕ} → r ≡ verdict_of P → r ≡ Out.Refused k p → P ≡ refused k p
-unfolding verdict_of
-verdict_refused (ok a j) e f = absurd (let h : ◌≡◌ {A = ℕ} 0 1 = cc in omega arith)
-verdict_refused (refused i j) {r} {k} {p} e f = let h : i ≡ k = cc in let g : j ≡ p = cc in cc
 
 -- an accepted view: its count and length, its SELECT, its tree
 pub record Taken (v : List ℕ) : Type 0 where
@@ -48,21 +37,6 @@ pub record Taken (v : List ℕ) : Type 0 where
   pub read : parse_block v (count_at v) 15 (parse_value v (count_at v) 15) tables values 1 ≡ ok block (count_at v)
   pub parts : InBlock v (count_at v) (parse_value v (count_at v) 15) tables values 1 block (count_at v)
   pub whole : parse_view v ≡ ok block (count_at v)
-
-slot_select : (nd : Node) → slot_of nd ≡ 3 → (a : ℕ) × (b : ℕ) × (nd ≡ Select a b)
-unfolding slot_of
-slot_select (Const t x) e = absurd (omega arith)
-slot_select (Binop op) e = absurd (omega arith)
-slot_select Not e = absurd (omega arith)
-slot_select If e = absurd (omega arith)
-slot_select (Exists a f) e = absurd (omega arith)
-slot_select (Single a g) e = absurd (omega arith)
-slot_select (Table name) e = absurd (omega arith)
-slot_select (Select a b) e = (a, b, refl)
-slot_select (Col name q) e = absurd (omega arith)
-slot_select (Classof name q) e = absurd (omega arith)
-slot_select (Let name) e = absurd (omega arith)
-slot_select Bad e = absurd (omega arith)
 
 -- the root, from the parser's ok
 record Rooted (v : List ℕ) (n : ℕ) (b : Block) (m : ℕ) : Type 0 where
@@ -112,26 +86,26 @@ view_ok v {b} {m} e =
       r.end,
     )
 
-pub check_records : (v : List ℕ) {b : Block} {m : ℕ} → parse_view v ≡ ok b m → check_of v ≡ Out.Records m
-unfolding check_of verdict_of
+pub check_records : (v : List ℕ) {b : Block} {m : ℕ} → parse_view v ≡ ok b m → check_of v ≡ fine m
+unfolding check_of place_of
 check_records v e = rw e
 
 -- A VIEW THAT WAS TAKEN, as a caller of the check holds it
-module _ (v : List ℕ) {r : Verdict} (e : r ≡ check_of v) where
-  read : {m : ℕ} → r ≡ Out.Records m → (b : Block) × (parse_view v ≡ ok b m)
+module _ (v : List ℕ) {r : Checked ℕ} (e : r ≡ check_of v) where
+  read : {m : ℕ} → r ≡ fine m → (b : Block) × (parse_view v ≡ ok b m)
   unfolding check_of
-  read f = verdict_records (parse_view v) e f
+  read f = place_fine (parse_view v) (sym f ∙ e)
 
-  pub taken : {m : ℕ} → r ≡ Out.Records m → Taken v
+  pub taken : {m : ℕ} → r ≡ fine m → Taken v
   taken f = (view_ok v (read f).1).0
 
-  pub taken_count : {m : ℕ} → r ≡ Out.Records m → m ≡ count_at v
+  pub taken_count : {m : ℕ} → r ≡ fine m → m ≡ count_at v
   taken_count f = (view_ok v (read f).1).1
 
   -- A VIEW THAT WAS REFUSED
-  pub denied : {k p : ℕ} → r ≡ Out.Refused k p → parse_view v ≡ refused k p
+  pub denied : {k p : ℕ} → r ≡ refusal k p → parse_view v ≡ refused k p
   unfolding check_of
-  denied f = verdict_refused (parse_view v) e f
+  denied f = place_refusal (parse_view v) (sym f ∙ e)
 
 -- the SELECT, as a pass takes it from record 0
 module _ (v : List ℕ) (w : Taken v) {nd : Node} (e : nd ≡ node_at v 0) where

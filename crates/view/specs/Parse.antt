@@ -1,19 +1,15 @@
 -- The parser of a view (1 to 5): from its bytes to its syntax tree, or to the refusal's number and place.
 -- Records in order, 3 before 4 before 5 at one record; after the root's end only 4; a tree that ends early is 4 at n. Assumes nothing.
-use Rattle.std.specs.Prelude.{ℕ, zero, suc, ◌+◌, ◌*◌, cond, ◌&&◌, List, [], ◌∷◌, length, eqb, ltb}
+use Rattle.std.specs.Prelude.{ℕ, zero, suc, ◌+◌, ◌*◌, cond, ◌&&◌, List, [], ◌∷◌, length, eqb, ltb, Result, Ok, Err}
 use Rattle.word.specs.Bytes.{within}
+use Rattle.word.specs.Refusal.{Checked, fine, refusal, number_of}
+use Rattle.word.specs.declared.refusal.Refusal.{Refusal}
 use Rattle.word.specs.Header.{drq, headed, count_at}
 use Rattle.view.specs.Record.{node_at, slot_of}
 use Rattle.view.specs.Ast.{TabName, Exp, Block, first_of, Parsed, ok, refused, and_then}
 use Rattle.view.specs.Ast as ast
 use Rattle.view.specs.declared.Node.{Node}
 use Rattle.view.specs.declared.Node.TheVariants.{Const, Binop, Not, If, Exists, Single, Table, Select, Col, Classof, Let, Bad}
-use Rattle.view.specs.declared.Met.{Met}
-use Rattle.view.specs.declared.Met.TheVariants as met
-use Rattle.view.specs.declared.Walk.{Walk}
-use Rattle.view.specs.declared.Walk.TheVariants as walk
-use Rattle.view.specs.declared.Verdict.{Verdict}
-use Rattle.view.specs.declared.Verdict.TheVariants as verdict
 
 -- the node of record at, if it may stand in this slot: 3 before 4
 unfoldable pub enter_node : ℕ → ℕ → Node → Parsed Node
@@ -119,19 +115,20 @@ parse_view v =
     (cond (within 1 1024 (count_at v) && eqb (length v) (8 + 8 * count_at v)) whole (refused 2 0))
     (refused 1 0)
 
--- the code's answers
-unfoldable pub met_of : Parsed Node → Met
-met_of (ok node next) = met.Found node
-met_of (refused number place) = met.Refused number place
+-- the node of record at of n records: past the last one the view ends early, and a bad one is refused
+unfoldable pub peek_of : List ℕ → ℕ → ℕ → Checked Node
+peek_of v n at = cond (ltb at n) (cond (eqb (slot_of (node_at v at)) 0) (refusal 3 at) (fine (node_at v at))) (refusal 4 n)
 
-unfoldable pub walk_of : {A : Type 0} → Parsed A → Walk
-walk_of (ok a next) = walk.Next next
-walk_of (refused number place) = walk.Refused number place
+-- what a parser's answer says but for the tree: the number of the next record, or the refusal
+unfoldable pub place_of : {A : Type 0} → Parsed A → Checked ℕ
+place_of (ok a next) = fine next
+place_of (refused number place) = refusal number place
 
-unfoldable pub verdict_of : {A : Type 0} → Parsed A → Verdict
-verdict_of (ok a next) = verdict.Records next
-verdict_of (refused number place) = verdict.Refused number place
+-- what a reader that stands at a place has read
+abbrev pub read_to : {A : Type 0} → ℕ → Result A Refusal → Checked ℕ
+read_to place (Ok a) = fine place
+read_to place (Err r) = refusal (number_of r.reason) r.place
 
 -- THE CHECK
-unfoldable pub check_of : List ℕ → Verdict
-check_of v = verdict_of (parse_view v)
+unfoldable pub check_of : List ℕ → Checked ℕ
+check_of v = place_of (parse_view v)

@@ -1,9 +1,8 @@
 -- What a record of a view says: one node for each kind, with the fields that the kind has. A field that isn't named is zero.
 -- Assumes nothing.
-use Rattle.std.specs.Prelude.{ℕ, ◌+◌, ◌*◌, ◌/◌, ◌%◌, Bool, true, false, cond, ◌&&◌, List, eqb, leb, ℤ, nat_abs}
+use Rattle.std.specs.Prelude.{ℕ, ◌+◌, ◌*◌, ◌/◌, ◌%◌, Bool, true, false, cond, ◌&&◌, List, eqb, leb, ℤ, nat_abs, Option, Some, None}
 use Rattle.word.specs.Bytes.{signed32, bits32, within}
-use Rattle.word.specs.Record.{rec_at}
-use Rattle.word.specs.declared.Rec.{Rec}
+use Rattle.word.specs.Record.{Record, rec_at}
 use Rattle.cell.specs.Types.{digits_rule}
 use Rattle.cell.specs.Values.{digits, number_in}
 use Rattle.cell.specs.declared.Type.{«Type» as Ty}
@@ -12,6 +11,8 @@ use Rattle.cell.specs.declared.Value.{Value}
 use Rattle.cell.specs.declared.Value.TheVariants as X
 use Rattle.view.specs.declared.Fold.TheVariants as fold
 use Rattle.view.specs.declared.Pick.TheVariants as pick
+use Rattle.view.specs.declared.Shape.{Shape}
+use Rattle.view.specs.declared.Shape.TheVariants as shape
 use Rattle.view.specs.declared.Node.{Node}
 use Rattle.view.specs.declared.Node.TheVariants.{Const, Binop, Not, If, Exists, Single, Table, Select, Col, Classof, Let, Bad}
 
@@ -21,25 +22,25 @@ when true x = x
 when false x = Bad
 
 -- op and a, b, c are zero where they aren't named
-abbrev pub bare : Rec → Bool
+abbrev pub bare : Record → Bool
 bare r = (eqb r.op 0 && eqb r.a 0) && (eqb r.b 0 && eqb r.c 0)
 
-abbrev pub op_only : Rec → Bool
+abbrev pub op_only : Record → Bool
 op_only r = eqb r.a 0 && (eqb r.b 0 && eqb r.c 0)
 
-abbrev pub a_only : Rec → Bool
+abbrev pub a_only : Record → Bool
 a_only r = eqb r.op 0 && (eqb r.b 0 && eqb r.c 0)
 
 -- COUNT's op: 16p+0, p is 1 to 9
-abbrev pub counts : Rec → Bool
+abbrev pub counts : Record → Bool
 counts r = (leb 1 (r.op / 16) && leb (r.op / 16) 9) && (eqb (r.op % 16) 0 && (eqb r.b 0 && eqb r.c 0))
 
 -- a signed value: low half b, high half c
-abbrev pub value_in : Rec → ℤ
+abbrev pub value_in : Record → ℤ
 value_in r = signed32 (r.b + 65536 * r.c)
 
 -- 1 NULL, 2 BOOL op 0/1, 3 FIXED op 16p+s with |value| below 10^p, 4 TIME and 5 INTERVAL op format, 6 CLASS a
-unfoldable pub const_of : Rec → Node
+unfoldable pub const_of : Record → Node
 const_of r =
     cond (eqb r.kind 1) (when (bare r) (Const T.Null X.Null))
     (cond (eqb r.kind 2) (when (leb r.op 1 && op_only r) (Const T.Boolean (X.Truth (eqb r.op 1))))
@@ -52,7 +53,7 @@ const_of r =
 
 -- THE NODE of a record: 7 BINOP op, 8 NOT, 9 IF, 10 EXISTS a tables, 11 VALUE a tables, 12 TABLE a name, 13 SELECT a tables b values,
 -- 14 COL a column b table or 0, 15 CLASSOF the same, 16 LET a name; 28 COUNT a tables op 16p, 29 MAX a tables, 30 MIN a tables
-unfoldable pub node_of : Rec → Node
+unfoldable pub node_of : Record → Node
 node_of r =
     cond (within 1 6 r.kind) (const_of r)
     (cond (eqb r.kind 7) (when (within 1 12 r.op && op_only r) (Binop r.op))
@@ -89,32 +90,31 @@ slot_of (Classof name q) = 1
 slot_of (Let name) = 1
 slot_of Bad = 0
 
--- the form of a node, what follows it as one number: 0 a bad node; so many values: 1 NOT, 2 BINOP and LET, 3 IF;
--- 4 nothing: the constants, COL and CLASSOF; 5 TABLE; 6 SELECT; 16 + a: EXISTS and COUNT over a tables; 32 + a: VALUE, MAX and MIN over a tables
-unfoldable pub form_of : Node → ℕ
-form_of (Const t v) = 4
-form_of (Binop op) = 2
-form_of Not = 1
-form_of If = 3
-form_of (Exists a f) = 16 + a
-form_of (Single a g) = 32 + a
-form_of (Table name) = 5
-form_of (Select a b) = 6
-form_of (Col name q) = 4
-form_of (Classof name q) = 4
-form_of (Let name) = 2
-form_of Bad = 0
+-- what follows the record of a value: so many values, or a block; TABLE, SELECT and a bad record are no values
+unfoldable pub shape_of : Node → Option Shape
+shape_of (Const t v) = Some (shape.Values 0)
+shape_of (Binop op) = Some (shape.Values 2)
+shape_of Not = Some (shape.Values 1)
+shape_of If = Some (shape.Values 3)
+shape_of (Exists a f) = Some (shape.Block a 0)
+shape_of (Single a g) = Some (shape.Block a 1)
+shape_of (Table name) = None
+shape_of (Select a b) = None
+shape_of (Col name q) = Some (shape.Values 0)
+shape_of (Classof name q) = Some (shape.Values 0)
+shape_of (Let name) = Some (shape.Values 2)
+shape_of Bad = None
 
 -- a record of these fields
-abbrev pub rec : ℕ → ℕ → ℕ → ℕ → ℕ → Rec
+abbrev pub rec : ℕ → ℕ → ℕ → ℕ → ℕ → Record
 rec k o x y z = record { kind = k; op = o; a = x; b = y; c = z }
 
 -- the record with a signed value: low half b, high half c
-abbrev pub signed_rec : ℕ → ℕ → ℤ → Rec
+abbrev pub signed_rec : ℕ → ℕ → ℤ → Record
 signed_rec k o m = rec k o 0 (bits32 m % 65536) (bits32 m / 65536)
 
 -- THE RECORD of a constant, by its type
-unfoldable pub const_rec : Ty → Value → Rec
+unfoldable pub const_rec : Ty → Value → Record
 const_rec T.Null v = rec 1 0 0 0 0
 const_rec T.Boolean v = rec 2 (nat_abs (number_in v)) 0 0 0
 const_rec (T.Fixed p s) v = signed_rec 3 (16 * p + s) (number_in v)

@@ -4,29 +4,32 @@
 
 mod reader;
 
-ghost use Rattle.std.specs.Prelude.{◌≡◌, cond, ◌&&◌, ◌+◌, ◌*◌, ◌^◌, ◌≤◌, ◌<◌, length, nat_abs};
-ghost use Rattle.word.specs.Bytes.{signed32, within};
+ghost use Rattle.std.specs.Prelude.{◌≡◌, ◌&&◌, ◌+◌, ◌*◌, ◌/◌, ◌%◌, ◌≤◌, ◌<◌, length, eqb};
+ghost use Rattle.word.specs.Refusal.{said};
 ghost use Rattle.cell.specs.Types.{digits_rule};
 ghost use Rattle.cell.specs.Values.{digits};
-ghost use Rattle.view.specs.Record.{rec, when, bare, op_only, a_only, counts, const_of, node_of, node_at, slot_of, form_of};
-ghost use Rattle.view.specs.Parse.{enter, many, parse_table, parse_block, parse_value, parse_root, met_of, walk_of, check_of};
+ghost use Rattle.view.specs.Record.{when, bare, op_only, a_only, counts, value_in, const_of, node_of, node_at, slot_of, shape_of};
+ghost use Rattle.view.specs.Parse.{many, parse_table, parse_block, parse_value, parse_root, place_of, read_to, check_of};
 
-// What a block without a value says of its kept rows: whether there is one (EXISTS), or how many, in so many digits (COUNT).
-#[derive(Clone, Copy)]
+use reader::Reader;
+use word::{Reason, Record, Refusal};
+
+/// What a block without a value says of its kept rows: whether there is one (EXISTS), or how many, in so many digits (COUNT).
+#[derive(Clone, Copy, PartialEq, Eq, Debug)]
 pub enum Fold {
     Any,
     Count(u8),
 }
 
-// Which of the kept rows' values a block gives: the only one (VALUE), the greatest (MAX), the least (MIN).
-#[derive(Clone, Copy)]
+/// Which of the kept rows' values a block gives: the only one (VALUE), the greatest (MAX), the least (MIN).
+#[derive(Clone, Copy, PartialEq, Eq, Debug)]
 pub enum Pick {
     Only,
     Greatest,
     Least,
 }
 
-// What a record says: its kind with the fields that the kind has. Bad: an unknown kind or op, or a field out of rule.
+/// What a record says: its kind with the fields that the kind has. Bad: an unknown kind or op, or a field out of rule.
 #[derive(Clone, Copy)]
 pub enum Node {
     Const(cell::Type, cell::Value),
@@ -43,540 +46,364 @@ pub enum Node {
     Bad,
 }
 
-// The node at a record, or a refusal: number and place.
-#[derive(Drop)]
-pub enum Met {
-    Found(Node),
-    Refused(u16, usize),
+/// What follows the record of a value: so many values, or a block over so many tables with so many values.
+#[derive(Clone, Copy, PartialEq, Eq, Debug)]
+pub enum Shape {
+    Values(u16),
+    Block { tables: u16, values: u16 },
 }
 
-// The next record, or a refusal: number and place.
-#[derive(Drop)]
-pub enum Walk {
-    Next(usize),
-    Refused(u16, usize),
+impl Node {
+    /// What follows a value's record; TABLE, SELECT and a bad record are no values.
+    #[tactic(auto, unfolding(crate::specs::Record::shape_of))]
+    fn shape(self) -> Option<Shape>
+        ensures { result ≡ shape_of self }
+    {
+        match self {
+            Node::Const(_, _) | Node::Col(_, _) | Node::Classof(_, _) => Some(Shape::Values(0)),
+            Node::Not => Some(Shape::Values(1)),
+            Node::Binop(_) | Node::Let(_) => Some(Shape::Values(2)),
+            Node::If => Some(Shape::Values(3)),
+            Node::Exists(tables, _) => Some(Shape::Block { tables, values: 0 }),
+            Node::Single(tables, _) => Some(Shape::Block { tables, values: 1 }),
+            _ => None,
+        }
+    }
 }
 
-// The check's answer: the number of records, or a refusal: number and place.
-#[derive(Drop)]
-pub enum Verdict {
-    Records(usize),
-    Refused(u16, usize),
-}
-
-// The node, where its fields keep their rule.
+/// The node, where its fields keep their rule.
 fn when(kept: bool, node: Node) -> Node
     ensures { result ≡ when kept node }
 {
     if kept { node } else { Node::Bad }
 }
 
-// No field is named.
-fn bare(op: u8, a: u16, b: u16, c: u16) -> bool
-    ensures { result ≡ bare (rec 0 op a b c) }
+/// No field is named.
+fn bare(fields: Record) -> bool
+    ensures { result ≡ bare fields }
 {
-    ((op == 0) & (a == 0)) & ((b == 0) & (c == 0))
+    ((fields.op == 0) & (fields.a == 0)) & ((fields.b == 0) & (fields.c == 0))
 }
 
-// No field but op is named.
-fn op_only(a: u16, b: u16, c: u16) -> bool
-    ensures { result ≡ op_only (rec 0 0 a b c) }
+/// No field but op is named.
+fn op_only(fields: Record) -> bool
+    ensures { result ≡ op_only fields }
 {
-    (a == 0) & ((b == 0) & (c == 0))
+    (fields.a == 0) & ((fields.b == 0) & (fields.c == 0))
 }
 
-// No field but a is named.
-fn a_only(op: u8, b: u16, c: u16) -> bool
-    ensures { result ≡ a_only (rec 0 op 0 b c) }
+/// No field but a is named.
+fn a_only(fields: Record) -> bool
+    ensures { result ≡ a_only fields }
 {
-    (op == 0) & ((b == 0) & (c == 0))
+    (fields.op == 0) & ((fields.b == 0) & (fields.c == 0))
 }
 
-fn half(x: u16) -> u32
-    ensures { (result ≡ x) × (result < 65536) }
+/// COUNT's op: 1 to 9 digits at scale 0; no other field but a is named.
+fn counts(fields: Record) -> bool
+    ensures { result ≡ counts fields }
 {
-    x as u32
+    let digits = fields.op / 16;
+    ((1 <= digits) & (digits <= 9)) & ((fields.op % 16 == 0) & ((fields.b == 0) & (fields.c == 0)))
 }
 
-// The 32 bits of a value: low half b, high half c.
-fn bits_in(b: u16, c: u16) -> u32
-    ensures { result ≡ b + 65536 * c }
+/// A signed value: low half b, high half c.
+fn value_in(fields: Record) -> i32
+    ensures { result ≡ value_in fields }
 {
-    half(b) + 65536 * half(c)
+    word::to_signed(u32::from(fields.b) + 65536 * u32::from(fields.c))
 }
 
-// The magnitude of the signed value that 32 bits say.
-fn size(n: u32) -> u32
-    ensures { result ≡ nat_abs (signed32 n) }
+/// Whether a FIXED's value has its number of digits, and these and its scale are in rule.
+#[tactic(auto, using(crate::proofs::Nodes::rule_few))]
+fn fixed_rule(fields: Record) -> bool
+    ensures { result ≡ (digits_rule (fields.op / 16) (fields.op % 16) && digits (fields.op / 16) (value_in fields)) }
 {
-    if n < 2147483648 {
-        n
-    } else {
-        4294967295 - n + 1
-    }
-}
-
-// 10^p.
-fn ten(p: u8) -> u32
-    requires { p ≤ 9 }
-    ensures { result ≡ 10 ^ p }
-{
-    match p {
-        0 => 1,
-        1 => 10,
-        2 => 100,
-        3 => 1000,
-        4 => 10000,
-        5 => 100000,
-        6 => 1000000,
-        7 => 10000000,
-        8 => 100000000,
-        _ => 1000000000,
-    }
-}
-
-// Whether 32 bits are a value of p digits at scale s, and p and s are in rule.
-fn fixed_rule(p: u8, s: u8, n: u32) -> bool
-    ensures { result ≡ (digits_rule p s && digits p (signed32 n)) }
-{
-    if cell::digits_rule(p, s) {
-        size(n) < ten(p)
+    let digits = fields.op / 16;
+    if cell::digits_rule(digits, fields.op % 16) {
+        value_in(fields).unsigned_abs() < 10u32.pow(u32::from(digits))
     } else {
         false
     }
 }
 
-// The node of a record of kind 1 to 6, by its fields.
-fn const_of(kind: u8, op: u8, a: u16, b: u16, c: u16) -> Node
-    ensures { result ≡ const_of (rec kind op a b c) }
+/// The node of a record of kind 1 to 6.
+#[tactic(auto, using(crate::proofs::Nodes::nodes))]
+fn const_of(fields: Record) -> Node
+    ensures { result ≡ const_of fields }
 {
-    let zero = a == 0;
-    let bits = bits_in(b, c);
-    let value = word::to_signed(bits);
-    match kind {
+    let op = fields.op;
+    let zero = fields.a == 0;
+    match fields.kind {
         1 => when(
-            bare(op, a, b, c),
+            bare(fields),
             Node::Const(cell::Type::Null, cell::Value::Null),
         ),
         2 => when(
-            (op <= 1) & op_only(a, b, c),
+            (op <= 1) & op_only(fields),
             Node::Const(cell::Type::Boolean, cell::Value::Truth(op == 1)),
         ),
         3 => when(
-            zero & fixed_rule(op / 16, op % 16, bits),
+            zero & fixed_rule(fields),
             Node::Const(
                 cell::Type::Fixed(op / 16, op % 16),
-                cell::Value::Fixed(op % 16, value),
+                cell::Value::Fixed(op % 16, value_in(fields)),
             ),
         ),
         4 => when(
             zero,
-            Node::Const(cell::Type::Time(op), cell::Value::Time(value)),
+            Node::Const(cell::Type::Time(op), cell::Value::Time(value_in(fields))),
         ),
         5 => when(
             zero,
-            Node::Const(cell::Type::Interval(op), cell::Value::Interval(value)),
+            Node::Const(
+                cell::Type::Interval(op),
+                cell::Value::Interval(value_in(fields)),
+            ),
         ),
         _ => when(
-            a_only(op, b, c),
-            Node::Const(cell::Type::Class, cell::Value::Class(a)),
+            a_only(fields),
+            Node::Const(cell::Type::Class, cell::Value::Class(fields.a)),
         ),
     }
 }
 
-fn inside(lo: u16, hi: u16, x: u16) -> bool
-    ensures { result ≡ within lo hi x }
+/// The node of a record.
+#[tactic(auto, using(crate::proofs::Nodes::nodes))]
+fn node_of(fields: Record) -> Node
+    ensures { result ≡ node_of fields }
 {
-    (lo <= x) & (x <= hi)
-}
-
-// COUNT's op: 1 to 9 digits at scale 0; no other field but a is named.
-fn counts(op: u8, b: u16, c: u16) -> bool
-    ensures { result ≡ counts (rec 0 op 0 b c) }
-{
-    ((1 <= op / 16) & (op / 16 <= 9)) & ((op % 16 == 0) & ((b == 0) & (c == 0)))
-}
-
-// The node of a record, by its fields.
-fn node_of(kind: u8, op: u8, a: u16, b: u16, c: u16) -> Node
-    ensures { result ≡ node_of (rec kind op a b c) }
-{
-    let plain = (op == 0) & (c == 0);
-    match kind {
-        1..=6 => const_of(kind, op, a, b, c),
-        7 => when(((1 <= op) & (op <= 12)) & op_only(a, b, c), Node::Binop(op)),
-        8 => when(bare(op, a, b, c), Node::Not),
-        9 => when(bare(op, a, b, c), Node::If),
-        10 => when(
-            inside(1, 4, a) & a_only(op, b, c),
-            Node::Exists(a, Fold::Any),
-        ),
-        11 => when(
-            inside(1, 4, a) & a_only(op, b, c),
-            Node::Single(a, Pick::Only),
-        ),
-        12 => when((1 <= a) & a_only(op, b, c), Node::Table(a)),
-        13 => when(
-            (inside(1, 4, a) & inside(1, 32, b)) & plain,
-            Node::Select(a, b),
-        ),
+    let op = fields.op;
+    let a = fields.a;
+    let b = fields.b;
+    let plain = (op == 0) & (fields.c == 0);
+    let over = (1 <= a) & (a <= 4);
+    match fields.kind {
+        1..=6 => const_of(fields),
+        7 => when(((1 <= op) & (op <= 12)) & op_only(fields), Node::Binop(op)),
+        8 => when(bare(fields), Node::Not),
+        9 => when(bare(fields), Node::If),
+        10 => when(over & a_only(fields), Node::Exists(a, Fold::Any)),
+        11 => when(over & a_only(fields), Node::Single(a, Pick::Only)),
+        12 => when((1 <= a) & a_only(fields), Node::Table(a)),
+        13 => when((over & ((1 <= b) & (b <= 32))) & plain, Node::Select(a, b)),
         14 => when((1 <= a) & plain, Node::Col(a, b)),
         15 => when((1 <= a) & plain, Node::Classof(a, b)),
-        16 => when((1 <= a) & a_only(op, b, c), Node::Let(a)),
-        28 => when(
-            inside(1, 4, a) & counts(op, b, c),
-            Node::Exists(a, Fold::Count(op / 16)),
-        ),
-        29 => when(
-            inside(1, 4, a) & a_only(op, b, c),
-            Node::Single(a, Pick::Greatest),
-        ),
-        30 => when(
-            inside(1, 4, a) & a_only(op, b, c),
-            Node::Single(a, Pick::Least),
-        ),
+        16 => when((1 <= a) & a_only(fields), Node::Let(a)),
+        28 => when(over & counts(fields), Node::Exists(a, Fold::Count(op / 16))),
+        29 => when(over & a_only(fields), Node::Single(a, Pick::Greatest)),
+        30 => when(over & a_only(fields), Node::Single(a, Pick::Least)),
         _ => Node::Bad,
     }
 }
 
-// The node of record i of a view.
+/// The node of record i of a view.
+#[tactic(auto, unfolding(crate::specs::Record::node_at))]
 pub fn node_at(view: &[u8], i: usize) -> Node
     requires { 8 + 8 * i + 8 ≤ length view.now }
     ensures { result ≡ node_at view.now i }
 {
-    reader::here(reader::make(view, i))
+    node_of(word::record_at(view, i))
 }
 
-// The node of a constant's record that keeps its rule.
-fn sound_const(kind: u8, op: u8, a: u16, b: u16, c: u16) -> Node
-    requires { slot_of (const_of (rec kind op a b c)) ≡ 1 }
-    ensures { result ≡ const_of (rec kind op a b c) }
+/// The node of a constant's record that keeps its rule.
+#[tactic(auto, using(crate::proofs::Sound::sound))]
+fn sound_const(fields: Record) -> Node
+    requires { slot_of (const_of fields) ≡ 1 }
+    ensures { result ≡ const_of fields }
 {
-    let bits = bits_in(b, c);
-    let value = word::to_signed(bits);
-    match kind {
+    let op = fields.op;
+    match fields.kind {
         1 => Node::Const(cell::Type::Null, cell::Value::Null),
         2 => Node::Const(cell::Type::Boolean, cell::Value::Truth(op == 1)),
         3 => Node::Const(
             cell::Type::Fixed(op / 16, op % 16),
-            cell::Value::Fixed(op % 16, value),
+            cell::Value::Fixed(op % 16, value_in(fields)),
         ),
-        4 => Node::Const(cell::Type::Time(op), cell::Value::Time(value)),
-        5 => Node::Const(cell::Type::Interval(op), cell::Value::Interval(value)),
-        _ => Node::Const(cell::Type::Class, cell::Value::Class(a)),
+        4 => Node::Const(cell::Type::Time(op), cell::Value::Time(value_in(fields))),
+        5 => Node::Const(
+            cell::Type::Interval(op),
+            cell::Value::Interval(value_in(fields)),
+        ),
+        _ => Node::Const(cell::Type::Class, cell::Value::Class(fields.a)),
     }
 }
 
-// The node of a record that keeps its rule, by its fields.
-fn sound_of(kind: u8, op: u8, a: u16, b: u16, c: u16) -> Node
-    requires { slot_of (node_of (rec kind op a b c)) ≡ 1 }
-    ensures { result ≡ node_of (rec kind op a b c) }
+/// The node of a record that keeps its rule.
+#[tactic(auto, using(crate::proofs::Sound::sound))]
+fn sound_of(fields: Record) -> Node
+    requires { slot_of (node_of fields) ≡ 1 }
+    ensures { result ≡ node_of fields }
 {
-    match kind {
-        1..=6 => sound_const(kind, op, a, b, c),
-        7 => Node::Binop(op),
+    let a = fields.a;
+    match fields.kind {
+        1..=6 => sound_const(fields),
+        7 => Node::Binop(fields.op),
         8 => Node::Not,
         9 => Node::If,
         10 => Node::Exists(a, Fold::Any),
         11 => Node::Single(a, Pick::Only),
         12 => Node::Table(a),
-        13 => Node::Select(a, b),
-        14 => Node::Col(a, b),
-        15 => Node::Classof(a, b),
+        13 => Node::Select(a, fields.b),
+        14 => Node::Col(a, fields.b),
+        15 => Node::Classof(a, fields.b),
         16 => Node::Let(a),
-        28 => Node::Exists(a, Fold::Count(op / 16)),
+        28 => Node::Exists(a, Fold::Count(fields.op / 16)),
         29 => Node::Single(a, Pick::Greatest),
         30 => Node::Single(a, Pick::Least),
         _ => Node::Bad,
     }
 }
 
-// The node of record i of a view, which is known to stand in a value's place: its rule isn't tested again.
+/// The node of record i of a view, which is known to stand in a value's place: its rule isn't tested again.
+#[tactic(auto, unfolding(crate::specs::Record::node_at))]
 pub fn sound_at(view: &[u8], i: usize) -> Node
     requires i_in_bounds { 8 + 8 * i + 8 ≤ length view.now }
     requires i_value { slot_of (node_at view.now i) ≡ 1 }
     ensures { result ≡ node_at view.now i }
 {
-    let kind = word::kind_at(view, i);
-    let op = word::op_at(view, i);
-    let a = word::a_at(view, i);
-    let b = word::b_at(view, i);
-    let c = word::c_at(view, i);
-    sound_of(kind, op, a, b, c)
+    sound_of(word::record_at(view, i))
 }
 
-// The number of the record after record i of a view.
-fn place_after(view: &[u8], i: usize) -> usize
-    requires { 8 + 8 * i + 8 ≤ length view.now }
-    ensures { result ≡ i + 1 }
+/// A TABLE record, with so many levels left.
+#[tactic(auto, using(crate::proofs::Turns::tabling))]
+fn table(reader: &mut Reader<'_>, depth: u16) -> Result<(), Refusal>
+    ensures value { read_to reader.new.place result ≡ place_of (parse_table reader.old.view.now reader.old.count depth reader.old.place) }
+    ensures view { reader.new.view ≡ reader.old.view }
+    ensures count { reader.new.count ≡ reader.old.count }
 {
-    reader::place(reader::next(reader::make(view, i)))
-}
-
-// Where a node may stand: 1 a value's place, 2 a table's, 3 the root's; 0 nowhere.
-fn slot_of(node: Node) -> u8
-    ensures { result ≡ slot_of node }
-{
-    match node {
-        Node::Const(_, _) => 1,
-        Node::Binop(_) => 1,
-        Node::Not => 1,
-        Node::If => 1,
-        Node::Exists(_, _) => 1,
-        Node::Single(_, _) => 1,
-        Node::Table(_) => 2,
-        Node::Select(_, _) => 3,
-        Node::Col(_, _) => 1,
-        Node::Classof(_, _) => 1,
-        Node::Let(_) => 1,
-        Node::Bad => 0,
-    }
-}
-
-// The form, where a record's fields keep their rule.
-fn form_when(kept: bool, form: u16) -> u16
-    ensures { result ≡ cond kept form 0 }
-{
-    if kept { form } else { 0 }
-}
-
-// The form of a block over a tables, if they are 1 to 4.
-fn form_over(base: u16, a: u16) -> u16
-    requires { base ≤ 32 }
-    ensures { result ≡ cond (within 1 4 a) (base + a) 0 }
-{
-    if inside(1, 4, a) { base + a } else { 0 }
-}
-
-// The form of a record of kind 1 to 6, by its fields.
-fn form_const(kind: u8, op: u8, a: u16, b: u16, c: u16) -> u16
-    ensures { result ≡ form_of (const_of (rec kind op a b c)) }
-{
-    let slot = slot_of(const_of(kind, op, a, b, c));
-    if slot == 0 { 0 } else { 4 }
-}
-
-// The form of a record, by its fields: but for a constant no node is made.
-fn form_of(kind: u8, op: u8, a: u16, b: u16, c: u16) -> u16
-    ensures { result ≡ form_of (node_of (rec kind op a b c)) }
-{
-    let plain = (op == 0) & (c == 0);
-    match kind {
-        1..=6 => form_const(kind, op, a, b, c),
-        7 => form_when(((1 <= op) & (op <= 12)) & op_only(a, b, c), 2),
-        8 => form_when(bare(op, a, b, c), 1),
-        9 => form_when(bare(op, a, b, c), 3),
-        10 => form_when(a_only(op, b, c), form_over(16, a)),
-        11 => form_when(a_only(op, b, c), form_over(32, a)),
-        12 => form_when((1 <= a) & a_only(op, b, c), 5),
-        13 => form_when((inside(1, 4, a) & inside(1, 32, b)) & plain, 6),
-        14 => form_when((1 <= a) & plain, 4),
-        15 => form_when((1 <= a) & plain, 4),
-        16 => form_when((1 <= a) & a_only(op, b, c), 2),
-        28 => form_when(counts(op, b, c), form_over(16, a)),
-        29 => form_when(a_only(op, b, c), form_over(32, a)),
-        30 => form_when(a_only(op, b, c), form_over(32, a)),
-        _ => 0,
-    }
-}
-
-// The form of record i of a view.
-fn form_at(view: &[u8], i: usize) -> u16
-    requires { 8 + 8 * i + 8 ≤ length view.now }
-    ensures { result ≡ form_of (node_at view.now i) }
-{
-    reader::form(reader::make(view, i))
-}
-
-// The node at a record, if it may stand in this slot.
-fn enter(view: &[u8], n: usize, slot: u8, at: usize) -> Met
-    requires { 8 + 8 * n ≤ length view.now }
-    ensures { result ≡ met_of (enter view.now n slot at) }
-{
-    if n <= at {
-        return Met::Refused(4, n);
-    }
-    let node = node_at(view, at);
-    let s = slot_of(node);
-    if s == 0 {
-        return Met::Refused(3, at);
-    }
-    if s == slot {
-        Met::Found(node)
-    } else {
-        Met::Refused(4, at)
-    }
-}
-
-// A TABLE record.
-fn table(view: &[u8], n: usize, at: usize, depth: usize) -> Walk
-    requires { 8 + 8 * n ≤ length view.now }
-    ensures { result ≡ walk_of (parse_table view.now n depth at) }
-{
-    match enter(view, n, 2, at) {
-        Met::Refused(k, p) => Walk::Refused(k, p),
-        Met::Found(_) => {
-            if depth == 0 {
-                Walk::Refused(5, at)
-            } else {
-                Walk::Next(place_after(view, at))
-            }
-        }
-    }
-}
-
-// So many TABLE records.
-fn tables(view: &[u8], n: usize, at: usize, count: u16, depth: usize) -> Walk
-    requires { 8 + 8 * n ≤ length view.now }
-    ensures { result ≡ walk_of (many (parse_table view.now n depth) count at) }
-{
-    let mut m = at;
-    let mut i: u16 = 0;
-    while i < count {
-        match table(view, n, m, depth) {
-            Walk::Next(k) => {
-                m = k;
-            }
-            Walk::Refused(k, p) => {
-                return Walk::Refused(k, p);
-            }
-        }
-        i += 1;
-    }
-    Walk::Next(m)
-}
-
-// The same answer, taken apart and made again: the compiler then keeps it in registers.
-fn again(w: Walk) -> Walk
-    ensures { result ≡ w }
-{
-    match w {
-        Walk::Next(m) => Walk::Next(m),
-        Walk::Refused(k, p) => Walk::Refused(k, p),
-    }
-}
-
-// A value, with depth levels left: what follows its record goes by the record's form.
-#[cycle(block_value_values)]
-fn value(view: &[u8], n: usize, at: usize, depth: usize) -> Walk
-    requires { 8 + 8 * n ≤ length view.now }
-    ensures { result ≡ walk_of (parse_value view.now n depth at) }
-{
-    if n <= at {
-        return Walk::Refused(4, n);
-    }
-    let form = form_at(view, at);
-    if form == 0 {
-        return Walk::Refused(3, at);
-    }
-    if (5 <= form) & (form <= 6) {
-        return Walk::Refused(4, at);
-    }
+    let place = reader.place;
+    let Node::Table(_) = reader.peek()? else {
+        return Err(Refusal {
+            reason: Reason::WrongPlace,
+            place,
+        });
+    };
     if depth == 0 {
-        return Walk::Refused(5, at);
+        return Err(Refusal {
+            reason: Reason::TooDeep,
+            place,
+        });
     }
-    let next = place_after(view, at);
-    let down = depth - 1;
-    if form == 4 {
-        return Walk::Next(next);
-    }
-    if form < 4 {
-        return again(values(view, n, next, form, down));
-    }
-    if form < 32 {
-        return again(block(view, n, next, form - 16, 0, down));
-    }
-    again(block(view, n, next, form - 32, 1, down))
+    reader.next();
+    Ok(())
 }
 
-// So many values.
+/// So many TABLE records.
+#[tactic(auto, using(crate::proofs::Turns::repeats))]
+fn tables(reader: &mut Reader<'_>, count: u16, depth: u16) -> Result<(), Refusal>
+    ensures value { read_to reader.new.place result ≡ place_of (many (parse_table reader.old.view.now reader.old.count depth) count reader.old.place) }
+    ensures view { reader.new.view ≡ reader.old.view }
+    ensures count { reader.new.count ≡ reader.old.count }
+{
+    for i in 0..count {
+        table(reader, depth)?;
+    }
+    Ok(())
+}
+
+/// A value, with so many levels left: what follows its record goes by the node's shape.
 #[cycle(block_value_values)]
-fn values(view: &[u8], n: usize, at: usize, count: u16, depth: usize) -> Walk
-    requires { 8 + 8 * n ≤ length view.now }
-    ensures { result ≡ walk_of (many (parse_value view.now n depth) count at) }
+#[tactic(auto, using(crate::proofs::Turns::turns))]
+fn value(reader: &mut Reader<'_>, depth: u16) -> Result<(), Refusal>
+    ensures value { read_to reader.new.place result ≡ place_of (parse_value reader.old.view.now reader.old.count depth reader.old.place) }
+    ensures view { reader.new.view ≡ reader.old.view }
+    ensures count { reader.new.count ≡ reader.old.count }
 {
-    let mut m = at;
-    let mut i: u16 = 0;
-    while i < count {
-        match value(view, n, m, depth) {
-            Walk::Next(k) => {
-                m = k;
-            }
-            Walk::Refused(k, p) => {
-                return Walk::Refused(k, p);
-            }
-        }
-        i += 1;
+    let place = reader.place;
+    let Some(shape) = reader.peek()?.shape() else {
+        return Err(Refusal {
+            reason: Reason::WrongPlace,
+            place,
+        });
+    };
+    if depth == 0 {
+        return Err(Refusal {
+            reason: Reason::TooDeep,
+            place,
+        });
     }
-    Walk::Next(m)
+    reader.next();
+    match shape {
+        Shape::Values(count) => values(reader, count, depth - 1),
+        Shape::Block { tables, values } => block(reader, tables, values, depth - 1),
+    }
 }
 
-// A block: its tables, its where, its values.
+/// So many values.
 #[cycle(block_value_values)]
-fn block(view: &[u8], n: usize, at: usize, count: u16, more: u16, depth: usize) -> Walk
-    requires { 8 + 8 * n ≤ length view.now }
-    ensures { result ≡ walk_of (parse_block view.now n depth (parse_value view.now n depth) count more at) }
+#[tactic(auto, using(crate::proofs::Turns::repeats))]
+fn values(reader: &mut Reader<'_>, count: u16, depth: u16) -> Result<(), Refusal>
+    ensures value { read_to reader.new.place result ≡ place_of (many (parse_value reader.old.view.now reader.old.count depth) count reader.old.place) }
+    ensures view { reader.new.view ≡ reader.old.view }
+    ensures count { reader.new.count ≡ reader.old.count }
 {
-    match tables(view, n, at, count, depth) {
-        Walk::Refused(k, p) => Walk::Refused(k, p),
-        Walk::Next(m) => match value(view, n, m, depth) {
-            Walk::Refused(k, p) => Walk::Refused(k, p),
-            Walk::Next(l) => values(view, n, l, more, depth),
-        },
+    for i in 0..count {
+        value(reader, depth)?;
     }
+    Ok(())
 }
 
-// The whole tree of n records.
-fn root(view: &[u8], n: usize) -> Walk
-    requires { 8 + 8 * n ≤ length view.now }
-    ensures { result ≡ walk_of (parse_root view.now n) }
+/// A block: its tables, its where, its values.
+#[cycle(block_value_values)]
+#[tactic(auto, using(crate::proofs::Turns::turns))]
+fn block(
+    reader: &mut Reader<'_>,
+    table_count: u16,
+    value_count: u16,
+    depth: u16,
+) -> Result<(), Refusal>
+    ensures value { read_to reader.new.place result ≡ place_of (parse_block reader.old.view.now reader.old.count depth (parse_value reader.old.view.now reader.old.count depth) table_count value_count reader.old.place) }
+    ensures view { reader.new.view ≡ reader.old.view }
+    ensures count { reader.new.count ≡ reader.old.count }
 {
-    match enter(view, n, 3, 0) {
-        Met::Refused(k, p) => Walk::Refused(k, p),
-        Met::Found(node) => match node {
-            Node::Select(tables, values) => {
-                let next = place_after(view, 0);
-                match block(view, n, next, tables, values, 15) {
-                    Walk::Refused(k, p) => Walk::Refused(k, p),
-                    Walk::Next(end) => {
-                        if end == n {
-                            Walk::Next(end)
-                        } else {
-                            Walk::Refused(4, end)
-                        }
-                    }
-                }
-            }
-            Node::Const(_, _) => Walk::Refused(4, 0),
-            Node::Binop(_) => Walk::Refused(4, 0),
-            Node::Not => Walk::Refused(4, 0),
-            Node::If => Walk::Refused(4, 0),
-            Node::Exists(_, _) => Walk::Refused(4, 0),
-            Node::Single(_, _) => Walk::Refused(4, 0),
-            Node::Table(_) => Walk::Refused(4, 0),
-            Node::Col(_, _) => Walk::Refused(4, 0),
-            Node::Classof(_, _) => Walk::Refused(4, 0),
-            Node::Let(_) => Walk::Refused(4, 0),
-            Node::Bad => Walk::Refused(4, 0),
-        },
-    }
+    tables(reader, table_count, depth)?;
+    value(reader, depth)?;
+    values(reader, value_count, depth)
 }
 
-// The check of a view: its header, its count and length, its tree.
-pub fn check(view: &[u8]) -> Verdict
-    ensures { result ≡ check_of view.now }
+/// The whole tree: SELECT and its block, and nothing after the root's end.
+#[tactic(auto, using(crate::proofs::Turns::rooting))]
+fn root(reader: &mut Reader<'_>) -> Result<(), Refusal>
+    requires { reader.old.place ≡ 0 }
+    ensures { read_to reader.new.place result ≡ place_of (parse_root reader.old.view.now reader.old.count) }
 {
-    if word::opens(view, b"DRQ\0") {
-        let n = word::u16_at(view, 6) as usize;
-        if ((1 <= n) & (n <= 1024)) & (view.len() == 8 + 8 * n) {
-            match root(view, n) {
-                Walk::Next(m) => Verdict::Records(m),
-                Walk::Refused(k, p) => Verdict::Refused(k, p),
-            }
-        } else {
-            Verdict::Refused(2, 0)
-        }
-    } else {
-        Verdict::Refused(1, 0)
+    let Node::Select(tables, values) = reader.peek()? else {
+        return Err(Refusal {
+            reason: Reason::WrongPlace,
+            place: 0,
+        });
+    };
+    reader.next();
+    block(reader, tables, values, 15)?;
+    if reader.place != reader.count {
+        return Err(Refusal {
+            reason: Reason::WrongPlace,
+            place: reader.place,
+        });
     }
+    Ok(())
+}
+
+/// The check of a view: its header, its count and length, its tree; the number of its records.
+#[tactic(auto, using(crate::proofs::Turns::checking))]
+pub fn check(view: &[u8]) -> Result<usize, Refusal>
+    ensures { said result ≡ check_of view.now }
+{
+    if !word::opens(view, b"DRQ\0") {
+        return Err(Refusal {
+            reason: Reason::ViewHeader,
+            place: 0,
+        });
+    }
+    let count = word::u16_at(view, 6);
+    if !(((1 <= count) & (count <= 1024)) & (view.len() == 8 + 8 * usize::from(count))) {
+        return Err(Refusal {
+            reason: Reason::ViewLength,
+            place: 0,
+        });
+    }
+    let mut reader = Reader::new(view, count);
+    root(&mut reader)?;
+    Ok(usize::from(reader.place))
 }

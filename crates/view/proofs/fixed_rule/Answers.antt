@@ -1,7 +1,8 @@
--- `view::fixed_rule` meets its contract.
+-- `view::fixed_rule` meets its contract: at most 9 digits are in rule.
 -- Assumes nothing.
-use Rattle.view.proofs.Nodes.{fixed}
+use borrow.Author.Rules.{rules}
+use Rattle.view.proofs.Nodes.{rule_few}
 use Rattle.view.proofs.fixed_rule.Goals as goal
 
-pub ten-requires : goal.ten-requires
-ten-requires c = search fixed
+pub pow-requires : goal.pow-requires
+pow-requires c = search (rule_few, rules)
