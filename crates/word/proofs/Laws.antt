@@ -2,21 +2,20 @@
 -- Assumes nothing.
 use Prim.Native.Nat.{ℕ, suc, ◌+◌, ◌-◌, ◌*◌, ◌/◌, ◌%◌, ◌^◌, ◌≤◌, ◌<◌}
 use mathlib.Core.Path.{◌≡◌, refl, sym, ap, ◌∙◌, subst}
-use mathlib.Core.Bool.{Bool, true, false, not, ◌&&◌}
+use mathlib.Core.Bool.{Bool, true, false, ◌&&◌}
 use mathlib.Core.List.{List, [], ◌∷◌, ◌++◌, append_assoc}
 use native.Mathlib.Omega.{arith}
-use native.Mathlib.Nat.{not-suc-le-zero, add-zero, add_assoc}
+use native.Mathlib.Nat.{add-zero, add_assoc}
 use native.Mathlib.Decide.{dec_lt}
-use native.Mathlib.Numerals.{add-one}
 use lib.Dec.{T, leb, eqb}
-use lib.ListN.{length, get_or, drop, drop_of_length-le, length-append}
-use lib.Seq.{drop-cons}
-use lib.IntN.{ℤ, pos, negsuc, nat_abs, ◌+ℤ◌, ◌-ℤ◌}
-use lib.Signed.{mag, lt_z, non_neg}
+use lib.ListN.{length, get_or, length-append}
+use lib.IntN.{ℤ, pos, negsuc}
+use lib.Signed.{mag}
 use mir.Syntax.{w32}
-use mir.Val.{to_z, of_z}
-use mir.Facts.{to_z-of_z}
-use borrow.Author.Tests.{lt-ltb, le-ltb, ltb-true, le-leb, lt-leb, leb-true, eq-eqb, eqb-true, not-true, not-false}
+use mir.Val.{to_z, of_z, SFits}
+use mir.Facts.{to_z-of_z, to_z_pos, to_z-neg}
+use Rattle.std.specs.List.{starts_with}
+use borrow.Author.Tests.{lt-ltb, le-ltb, le-leb, leb-true, eq-eqb, ne_eqb, eqb-true}
 use Rattle.word.specs.Bytes.{u16_at, u32_at, i32_at, signed32, bits32, le16, le32}
 use Rattle.word.specs.Buffer.{put, Wrote, Room}
 use Rattle.word.specs.Record.{rec_at, rec_bytes}
@@ -44,28 +43,20 @@ pub signed_high : (n : ℕ) → 2147483648 ≤ n → signed32 n ≡ negsuc (4294
 unfolding signed32
 signed_high n h = rw (le-ltb n 2147483648 h)
 
--- the code's n - 2^32, and v + 2^32 below zero
-pub wrapped : (n : ℕ) → n < 4294967296 → pos n -ℤ pos 4294967296 ≡ negsuc (4294967295 - n)
-wrapped n h = rw (lt-ltb n 4294967296 h) (ap negsuc (omega arith))
+-- the library's readings of 32 bits
+pub signed_is : (n : ℕ) → n < 4294967296 → to_z w32 n ≡ signed32 n
+signed_is n h = by (dec_lt n 2147483648)
+  where
+    by : Dec (n < 2147483648) → to_z w32 n ≡ signed32 n
+    by (yes l) = to_z_pos w32 l ∙ sym (signed_low n l)
+    by (no g) =
+        let e : n ≡ 4294967296 - suc (4294967295 - n) = omega (arith, g) in
+        ap (to_z w32) e ∙ to_z-neg w32 (4294967295 - n) (omega (arith, g)) ∙ sym (signed_high n (omega (arith, g)))
 
-pub lifted : (z : ℤ) → lt_z z (pos 0) ≡ true → mag z < 2147483648 → z +ℤ pos 4294967296 ≡ pos (bits32 z)
+pub bits_are : (z : ℤ) → SFits w32 z → of_z w32 z ≡ bits32 z
 unfolding bits32
-lifted (pos n) e h = absurd (not-suc-le-zero (ltb-true n 0 e))
-lifted (negsuc k) e h = rw (le-ltb 4294967296 (suc k) (omega arith)) (ap pos (omega arith))
-
-pub bits_lt : (z : ℤ) → mag z < 2147483648 → bits32 z < 4294967296
-unfolding bits32
-bits_lt (pos n) h = omega arith
-bits_lt (negsuc k) h = omega arith
-
-pub bits_above : (z : ℤ) → lt_z z (pos 0) ≡ false → bits32 z ≡ nat_abs z
-unfolding bits32
-bits_above (pos n) e = refl
-bits_above (negsuc n) e = absurd (subst T e tt)
-
-pub not_below_zero : (z : ℤ) → lt_z z (pos 0) ≡ false → T (non_neg z)
-not_below_zero (pos n) e = tt
-not_below_zero (negsuc n) e = subst T e tt
+bits_are (pos n) h = refl
+bits_are (negsuc k) h = omega (arith, h.sfits)
 
 -- a number read back from its bits, from what a call gives with its result (`.ok`)
 pub back32 : (z : ℤ) → mag z < 2 ^ 31 → to_z w32 (of_z w32 z) ≡ z
@@ -192,16 +183,6 @@ rec_next kind op a b c w = omega (arith, w.next_is, length_rec kind op a b c)
 
 -- ---- the mark and the header
 
-pub starts_short : (m b : List ℕ) (i : ℕ) → i < length m → length b ≤ i → starts (drop i m) (drop i b) ≡ false
-starts_short m b i h k = rw (drop-cons m i 0 h, drop_of_length-le b k)
-
-pub starts_step : (m b : List ℕ) (i : ℕ) → i < length m → i < length b
-    → starts (drop i m) (drop i b) ≡ eqb (get_or b i 0) (get_or m i 0) && starts (drop (i + 1) m) (drop (i + 1) b)
-starts_step m b i h k = rw (drop-cons m i 0 h, drop-cons b i 0 k, add-one i)
-
-pub starts_done : (m b : List ℕ) (i : ℕ) → length m ≤ i → starts (drop i m) (drop i b) ≡ true
-starts_done m b i h = rw (drop_of_length-le m h)
-
 -- a list of four is its four bytes
 pub four : (m : List ℕ) → length m ≡ 4 → m ≡ get_or m 0 0 ∷ get_or m 1 0 ∷ get_or m 2 0 ∷ get_or m 3 0 ∷ []
 four [] e = absurd (omega arith)
@@ -216,6 +197,19 @@ pub header_four : (m : List ℕ) (n : ℕ) → length m ≡ 4
 unfolding header le16
 header_four m n e = ap (λ (l : List ℕ). l ++ (1 ∷ 0 ∷ n % 256 ∷ n / 256 ∷ [])) (four m e)
 
+-- the library's test
+eqb_swap : (x y : ℕ) → eqb x y ≡ eqb y x
+eqb_swap x y = go (eqb x y) refl
+  where
+    go : (t : Bool) → eqb x y ≡ t → eqb x y ≡ eqb y x
+    go true e = e ∙ sym (eq-eqb y x (sym (eqb-true x y e)))
+    go false e = e ∙ sym (ne_eqb y x (λ q. subst T (sym (eq-eqb x y (sym q)) ∙ e) tt))
+
+pub starts_is : (m b : List ℕ) → starts_with eqb b m ≡ starts m b
+starts_is [] b = refl
+starts_is (x ∷ m) [] = refl
+starts_is (x ∷ m) (y ∷ b) = rw (starts_is m b, eqb_swap x y) refl
+
 -- a list begins with what was put before it
 pub starts_append : (m b : List ℕ) → starts m (m ++ b) ≡ true
 starts_append [] b = refl
@@ -224,25 +218,6 @@ starts_append (x ∷ m) b = rw (eq-eqb x x refl, starts_append m b)
 pub header_starts : (m : List ℕ) (n : ℕ) (b : List ℕ) → starts m (header m n ++ b) ≡ true
 unfolding header
 header_starts m n b = rw append_assoc (starts_append m ((le16 1 ++ le16 n) ++ b))
-
--- the test of a header, as the code makes it
-pub opens_short : (m b : List ℕ) → length b < 8 → false ≡ headed m b
-unfolding headed
-opens_short m b h = rw (lt-leb 8 (length b) h)
-
-pub opens_long : {r : Bool} {v : ℕ} (m b : List ℕ) → 8 ≤ length b → r ≡ starts m b → v ≡ u16_at b 4 → r && eqb v 1 ≡ headed m b
-unfolding headed
-opens_long m b h p q = rw (le-leb 8 (length b) h, p, q)
-
--- the answer of `opens`, as a branch on it or on its negation knows it; the byte string b"DRQ\0" is drq, so m is one of the five marks
-pub opened : {r t : Bool} (m b : List ℕ) → r ≡ headed m b → r ≡ t → t ≡ headed m b
-opened m b p q = sym q ∙ p
-
-pub opened_not : {r : Bool} (m b : List ℕ) → r ≡ headed m b → not r ≡ true → false ≡ headed m b
-opened_not {r} m b p q = sym (not-true r q) ∙ p
-
-pub opened_yes : {r : Bool} (m b : List ℕ) → r ≡ headed m b → not r ≡ false → true ≡ headed m b
-opened_yes {r} m b p q = sym (not-false r q) ∙ p
 
 -- what a header that passes the test has: eight bytes, the mark, version 1; and what has these passes
 pub headed_long : (m b : List ℕ) → headed m b ≡ true → 8 ≤ length b

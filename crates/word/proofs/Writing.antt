@@ -3,11 +3,14 @@
 -- Assumes nothing.
 use mathlib.Core.Path.{◌≡◌, refl, sym, ap, subst, ◌∙◌}
 use mathlib.Core.List.{List, [], ◌∷◌, ◌++◌, append_assoc}
-use Prim.Native.Nat.{ℕ, suc, ◌+◌, ◌≤◌, ◌<◌}
+use Prim.Native.Nat.{ℕ, suc, ◌+◌, ◌-◌, ◌≤◌, ◌<◌}
 use native.Mathlib.Omega.{arith}
 use native.Mathlib.Nat.{add-zero}
 use lib.ListN.{length, get_or, set, take, drop, length-set, length-append, get_or-append}
 use lib.Seq.{sets, sets-eq, get_or-set_other, length-take-le, get_or-append-add}
+use borrow.Rule.Slice.PartMut.{put_mid, Post-is}
+use Rattle.word.specs.declared.writer.Writer.{Writer}
+use Rattle.word.specs.Writer.{Writes}
 use Rattle.word.specs.Buffer.{put, Wrote, Room}
 
 -- ---- a run of stores
@@ -76,6 +79,21 @@ pub then : {o : List ℕ} {at : ℕ} {xs : List ℕ} {o₁ : List ℕ} {r₁ : �
 then {o} {at} {xs} {o₁} {r₁} {ys} {o₂} {r₂} w v = record {
   now_is = v.now_is ∙ ap (λ (l : List ℕ). put l r₁ ys) w.now_is ∙ ap (λ (j : ℕ). put (put o at xs) j ys) w.next_is ∙ put_append o at xs ys;
   next_is = simp length-append (omega arith);
+}
+
+-- the same for what writes by a `Writer`: two writes one after the other are one write of both
+pub writes_then : {xs ys : List ℕ} {old between new : Writer} → Writes xs old between → Writes ys between new → Writes (xs ++ ys) old new
+writes_then {xs} {ys} {old} {between} {new} w v =
+    let whole : Wrote old.out.now old.at (xs ++ ys) new.out.now new.at = then (record { now_is = w.written; next_is = w.place }) (record { now_is = v.written; next_is = v.place }) in
+    record { same = v.same ∙ w.same; place = whole.next_is; written = whole.now_is }
+
+-- bytes copied over a part of the buffer
+pub wrote_part : {o : List ℕ} {at : ℕ} {xs ys : List ℕ} → at + length xs ≤ length o → ys ≡ xs → Wrote o at xs (put_mid at (at + length xs - at) o ys) (at + length xs)
+wrote_part {o} {at} {xs} {ys} h e = record {
+  now_is =
+      let rest = Post-is at (at + length xs) o (omega arith) in
+      rw (e, rest) (sym (append_assoc (take at o) xs (drop (at + length xs) o)) ∙ sym (put_eq o at xs h));
+  next_is = refl;
 }
 
 -- the same bytes, said otherwise

@@ -5,3 +5,4 @@ pub mod Buffer
 pub mod Header
 pub mod Record
 pub mod Refusal
+pub mod Writer

@@ -21,30 +21,33 @@ pub struct Rec {
 /// The name of a record's type.
 pub type Record = Rec;
 
+impl Record {
+    /// The eight bytes of a record.
+    #[tactic(auto, unfolding(crate::specs::Record::rec_bytes))]
+    pub fn bytes(self) -> [u8; 8]
+        ensures { result ≡ rec_bytes self.kind self.op self.a self.b self.c }
+    {
+        let [a, b, c] = [
+            self.a.to_le_bytes(),
+            self.b.to_le_bytes(),
+            self.c.to_le_bytes(),
+        ];
+        [self.kind, self.op, a[0], a[1], b[0], b[1], c[0], c[1]]
+    }
+}
+
 mod refusal;
+mod writer;
 
 pub use refusal::{Reason, Refusal};
-
-// A byte as a wider number: with the bound, a caller need not go back to the slice for it.
-fn wide(x: u8) -> u16
-    ensures { (result ≡ x) × (result < 256) }
-{
-    x as u16
-}
-
-// A half as a wider number.
-fn half(x: u16) -> u32
-    ensures { (result ≡ x) × (result < 65536) }
-{
-    x as u32
-}
+pub use writer::Writer;
 
 // The 16 bits at a place.
 pub fn u16_at(b: &[u8], at: usize) -> u16
     requires { at + 2 ≤ length b.now }
     ensures { result ≡ u16_at b.now at }
 {
-    wide(b[at]) + 256 * wide(b[at + 1])
+    u16::from_le_bytes([b[at], b[at + 1]])
 }
 
 // The 32 bits at a place.
@@ -52,32 +55,27 @@ pub fn u32_at(b: &[u8], at: usize) -> u32
     requires { at + 4 ≤ length b.now }
     ensures { result ≡ u32_at b.now at }
 {
-    half(u16_at(b, at)) + 65536 * half(u16_at(b, at + 2))
+    u32::from_le_bytes([b[at], b[at + 1], b[at + 2], b[at + 3]])
 }
 
-// The signed reading of 32 bits.
+/// The signed reading of 32 bits.
+#[tactic(auto, using(crate::proofs::Laws::signed_is))]
 pub fn to_signed(n: u32) -> i32
     ensures { result ≡ signed32 n }
 {
-    if n < 2147483648 {
-        n as i32
-    } else {
-        ((n as i64) - 4294967296) as i32
-    }
+    n.cast_signed()
 }
 
-// The 32 bits of a signed number.
+/// The 32 bits of a signed number.
+#[tactic(auto, using(crate::proofs::Laws::bits_are))]
 pub fn to_bits(v: i32) -> u32
     ensures { result ≡ bits32 v }
 {
-    if v < 0 {
-        ((v as i64) + 4294967296) as u32
-    } else {
-        v as u32
-    }
+    v.cast_unsigned()
 }
 
-// The signed number at a place.
+/// The signed number at a place.
+#[tactic(auto, unfolding(crate::specs::Bytes::i32_at))]
 pub fn i32_at(b: &[u8], at: usize) -> i32
     requires { at + 4 ≤ length b.now }
     ensures { result ≡ i32_at b.now at }
@@ -90,19 +88,7 @@ pub fn rec_at(b: &[u8], i: usize) -> Rec
     requires { 8 + 8 * i + 8 ≤ length b.now }
     ensures { result ≡ rec_at b.now i }
 {
-    let at = 8 + 8 * i;
-    let kind = b[at];
-    let op = b[at + 1];
-    let x = u16_at(b, at + 2);
-    let y = u16_at(b, at + 4);
-    let z = u16_at(b, at + 6);
-    Rec {
-        kind,
-        op,
-        a: x,
-        b: y,
-        c: z,
-    }
+    record_at(b, i)
 }
 
 /// Record i of a file: the eight bytes from place 8 + 8 i on.
@@ -157,100 +143,74 @@ pub fn c_at(b: &[u8], i: usize) -> u16
     u16_at(b, 8 + 8 * i + 6)
 }
 
-// 16 bits at a place of a buffer.
+/// Bytes at a place of a buffer; the place after them.
+#[tactic(auto, using(crate::proofs::Writing::wrote_part))]
+fn put_bytes(out: &mut [u8], at: usize, bytes: &[u8]) -> usize
+    requires { at + length bytes.now ≤ length out.old }
+    ensures { Wrote out.old at bytes.now out.new result }
+{
+    out[at..at + bytes.len()].copy_from_slice(bytes);
+    at + bytes.len()
+}
+
+/// 16 bits at a place of a buffer; the place after them.
+#[tactic(auto, unfolding(crate::specs::Bytes::le16))]
 pub fn put_u16(out: &mut [u8], at: usize, v: u16) -> usize
     requires { at + 2 ≤ length out.old }
     ensures { Wrote out.old at (le16 v) out.new result }
 {
-    out[at] = (v % 256) as u8;
-    out[at + 1] = (v / 256) as u8;
-    at + 2
+    put_bytes(out, at, &v.to_le_bytes())
 }
 
-// 32 bits at a place of a buffer.
-fn put_u32(out: &mut [u8], at: usize, v: u32) -> usize
-    requires { at + 4 ≤ length out.old }
-    ensures { Wrote out.old at (le32 v) out.new result }
-{
-    out[at] = (v % 256) as u8;
-    out[at + 1] = (v / 256 % 256) as u8;
-    out[at + 2] = (v / 65536 % 256) as u8;
-    out[at + 3] = (v / 16777216) as u8;
-    at + 4
-}
-
-// A signed number at a place of a buffer.
+/// A signed number at a place of a buffer; the place after it.
+#[tactic(auto, unfolding(crate::specs::Bytes::le32))]
 pub fn put_i32(out: &mut [u8], at: usize, v: i32) -> usize
     requires { at + 4 ≤ length out.old }
     ensures { Wrote out.old at (le32 (bits32 v)) out.new result }
 {
-    put_u32(out, at, to_bits(v))
-}
-
-// A record at a place of a buffer.
-pub fn put_rec(out: &mut [u8], at: usize, kind: u8, op: u8, a: u16, b: u16, c: u16) -> usize
-    requires { at + 8 ≤ length out.old }
-    ensures { Wrote out.old at (rec_bytes kind op a b c) out.new result }
-{
-    out[at] = kind;
-    out[at + 1] = op;
-    out[at + 2] = (a % 256) as u8;
-    out[at + 3] = (a / 256) as u8;
-    out[at + 4] = (b % 256) as u8;
-    out[at + 5] = (b / 256) as u8;
-    out[at + 6] = (c % 256) as u8;
-    out[at + 7] = (c / 256) as u8;
-    at + 8
+    put_bytes(out, at, &to_bits(v).to_le_bytes())
 }
 
 /// A record at a place of a buffer; the place after it.
+#[tactic(auto, unfolding(crate::specs::Record::rec_bytes))]
 pub fn put_record(out: &mut [u8], at: usize, value: Record) -> usize
     requires { at + 8 ≤ length out.old }
     ensures { Wrote out.old at (rec_bytes value.kind value.op value.a value.b value.c) out.new result }
 {
-    put_rec(out, at, value.kind, value.op, value.a, value.b, value.c)
+    put_bytes(out, at, &value.bytes())
 }
 
-// Whether b begins with the bytes of mark.
-fn has_mark(b: &[u8], mark: &[u8]) -> bool
-    ensures { result ≡ starts mark.now b.now }
+// The same by the fields.
+pub fn put_rec(out: &mut [u8], at: usize, kind: u8, op: u8, a: u16, b: u16, c: u16) -> usize
+    requires { at + 8 ≤ length out.old }
+    ensures { Wrote out.old at (rec_bytes kind op a b c) out.new result }
 {
-    let mut i = 0;
-    while i < mark.len() {
-        if b.len() <= i {
-            return false;
-        }
-        if b[i] != mark[i] {
-            return false;
-        }
-        i += 1;
-    }
-    true
+    put_record(out, at, Record { kind, op, a, b, c })
 }
 
-// Whether b opens with a header: eight bytes at least, the mark, version 1.
+/// Whether a file opens with a header: eight bytes at least, the mark, version 1.
+#[tactic(auto, using(crate::proofs::Laws::starts_is), unfolding(crate::specs::Header::headed))]
 pub fn opens(b: &[u8], mark: &[u8]) -> bool
     ensures { result ≡ headed mark.now b.now }
 {
-    if b.len() < 8 {
-        return false;
-    }
-    let version = u16_at(b, 4);
-    has_mark(b, mark) & (version == 1)
+    b.len() >= 8 && b.starts_with(mark) && u16_at(b, 4) == 1
 }
 
-// A header at the start of a buffer: the mark, version 1, the count.
+// A header at a place of a buffer; the place after it.
+#[tactic(auto, unfolding(crate::specs::Bytes::le16))]
+fn header_at(out: &mut [u8], at: usize, mark: &[u8], n: u16) -> usize
+    requires { (length mark.now ≡ 4) × (at + 8 ≤ length out.old) }
+    ensures { Wrote out.old at (header mark.now n) out.new result }
+{
+    let version = put_bytes(out, at, mark);
+    let count = put_u16(out, version, 1);
+    put_u16(out, count, n)
+}
+
+/// A header at the start of a buffer: the mark, version 1, the count; the place after it.
 pub fn put_header(out: &mut [u8], mark: &[u8], n: u16) -> usize
     requires { (length mark.now ≡ 4) × (8 ≤ length out.old) }
     ensures { Wrote out.old 0 (header mark.now n) out.new result }
 {
-    out[0] = mark[0];
-    out[1] = mark[1];
-    out[2] = mark[2];
-    out[3] = mark[3];
-    out[4] = 1;
-    out[5] = 0;
-    out[6] = (n % 256) as u8;
-    out[7] = (n / 256) as u8;
-    8
+    header_at(out, 0, mark, n)
 }
