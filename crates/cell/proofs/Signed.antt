@@ -3,7 +3,7 @@
 use Prim.Native.Nat.{ℕ, zero, suc, ◌+◌, ◌-◌, ◌*◌, ◌/◌, ◌^◌, ◌≤◌, ◌<◌}
 use mathlib.Core.Path.{◌≡◌, refl, sym, ap, ◌∙◌, subst}
 use mathlib.Core.Bool.{Bool, true, false, cond, ◌&&◌, and-eq-true_iff, false≢true}
-use native.Mathlib.Nat.{mul-le-mul, lt_of_le_of_lt, le_refl, le_antisymm, not-suc-le-zero}
+use native.Mathlib.Nat.{div-le_self, mul-le-mul, lt_of_le_of_lt, le_refl, le_antisymm, not-suc-le-zero}
 use native.Mathlib.Omega.{arith}
 use lib.Dec.{T, eqb, ltb, leb, ltb→lt}
 use borrow.Author.Tests.{ltb-true, le-leb, leb-true, eq-eqb, eqb-true, ne_eqb, eqb-false}
@@ -128,6 +128,12 @@ add_fits a b p q = fits_abs (omega (arith, abs_add a b))
 
 pub sub_fits : (a b : ℤ) → nat_abs a ≤ 2 ^ 61 → nat_abs b ≤ 2 ^ 61 → SFits w64 (a -ℤ b)
 sub_fits a b p q = fits_abs (omega (arith, abs_sub a b))
+
+-- and so does a quotient of that product
+pub quot_fits : {a b : ℤ} (d : ℤ) → SFits w32 a → SFits w32 b → SFits w64 (quot_z (a *ℤ b) d)
+quot_fits {a} {b} d p q =
+    fits_abs
+    (omega (arith, abs_quot (a *ℤ b) d, div-le_self (nat_abs (a *ℤ b)) (nat_abs d), product_bound a b (abs_fits p) (abs_fits q)))
 
 -- what a need of signed numbers is searched with: `search signed`
 pub ruleset signed = (rules, sfits_widen, mul_fits)

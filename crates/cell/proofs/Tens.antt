@@ -5,7 +5,7 @@ use mathlib.Core.Path.{◌≡◌}
 use native.Mathlib.Nat.{pow-suc, pow-le-pow_right, mul-le-mul}
 use native.Mathlib.Omega.{arith}
 use lib.IntN.{ℤ, pos, nat_abs, ◌*ℤ◌}
-use Rattle.cell.proofs.Signed.{abs_mul}
+use Rattle.cell.proofs.Signed.{abs_mul, abs_fits, fits_abs, product_bound}
 
 pub ten_pos : (n : ℕ) → 0 < 10 ^ n
 ten_pos zero = omega arith
@@ -21,3 +21,12 @@ scaled_bound m k p h = omega (arith, abs_mul m (pos (10 ^ k)), mul-le-mul p (ten
 -- a number that isn't its least value is at least the next
 pub past : (k n : ℕ) → k ≤ n → (n ≡ k → ⊥) → suc k ≤ n
 past k n h e = omega arith
+
+-- a power that is asked for fits 64 bits
+pub ten_fits : (n : ℕ) → n < 20 → 10 ^ n < 2 ^ 64
+ten_fits n h =
+    let l : n ≤ 19 = omega arith in
+    let k : 10 ^ n ≤ 10 ^ 19 = pow-le-pow_right {n = 10} (omega arith) l in
+    omega arith
+
+pub ruleset tens = (ten_pos, ten_le, ten_fits, scaled_bound, abs_fits, fits_abs, product_bound)

@@ -7,8 +7,8 @@ ghost use Rattle.cell.specs.Apply.{apply, as_cond, convert, cut_fixed, cut_inter
 ghost use Rattle.cell.specs.declared.Value.TheVariants.{Fixed};
 
 use crate::numbers::{
-    cut_fixed, cut_interval, cut_time, in_order, is_zero, product_cut, raised, rescaled, same,
-    scaled_cut, total,
+    cut_fixed, cut_interval, cut_time, in_order, product_cut, raised, rescaled, same, scaled_cut,
+    total,
 };
 use crate::{Outcome, Test, Value};
 

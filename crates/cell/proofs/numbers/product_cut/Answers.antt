@@ -1,17 +1,16 @@
--- `cell::product_cut` meets its contract: the product has 62 bits, and the divisor isn't 0.
+-- `cell::product_cut` meets its contract: the product has at most 63 bits, and the divisor isn't 0.
 -- Assumes nothing.
-use Prim.Native.Nat.{◌^◌, ◌<◌}
-use native.Mathlib.Omega.{arith}
-use borrow.Author.Rules.{rules}
-use lib.IntN.{nat_abs}
-use Rattle.cell.proofs.Tens.{ten_pos}
+use Rattle.std.proofs.Common.{rules, ◌≡◌, ◌*ℤ◌}
+use mir.Syntax.{w64}
+use mir.Val.{SFits}
+use lib.Signed.{quot_z}
+use Rattle.cell.proofs.Signed.{mul_fits, quot_fits}
 use Rattle.cell.proofs.numbers.product_cut.Goals as goal
 
-small : (c : goal.After-ten_signed) → nat_abs c.product.result < 2 ^ 63
-small c = omega arith
-
-above : (c : goal.After-ten_signed) → 0 < nat_abs c.ten_signed.result
-above c = rw c.ten_signed.ensures (ten_pos c.args.k)
-
-pub quot-requires : goal.quot-requires
-quot-requires c = let p = small c in let t = above c in (search rules, search rules)
+pub returns : goal.returns
+returns c =
+    let a : c.from.result ≡ c.args.m = search rules in
+    let b : c.from-2.result ≡ c.args.n = search rules in
+    let f : SFits w64 (c.from.result *ℤ c.from-2.result) = rw (a, b) (mul_fits c.ranges.m c.ranges.n) in
+    let q : SFits w64 (quot_z (c.from.result *ℤ c.from-2.result) c.pow.result) = rw (a, b) (quot_fits _ c.ranges.m c.ranges.n) in
+    search rules
