@@ -22,11 +22,4 @@ scaled_bound m k p h = omega (arith, abs_mul m (pos (10 ^ k)), mul-le-mul p (ten
 pub past : (k n : ℕ) → k ≤ n → (n ≡ k → ⊥) → suc k ≤ n
 past k n h e = omega arith
 
--- a power that is asked for fits 64 bits
-pub ten_fits : (n : ℕ) → n < 20 → 10 ^ n < 2 ^ 64
-ten_fits n h =
-    let l : n ≤ 19 = omega arith in
-    let k : 10 ^ n ≤ 10 ^ 19 = pow-le-pow_right {n = 10} (omega arith) l in
-    omega arith
-
-pub ruleset tens = (ten_pos, ten_le, ten_fits, scaled_bound, abs_fits, fits_abs, product_bound)
+pub ruleset tens = (ten_pos, ten_le, scaled_bound, abs_fits, fits_abs, product_bound)

@@ -12,5 +12,5 @@ returns c =
     let a : c.from.result ≡ c.args.m = search rules in
     let b : c.from-2.result ≡ c.args.n = search rules in
     let f : SFits w64 (c.from.result *ℤ c.from-2.result) = rw (a, b) (mul_fits c.ranges.m c.ranges.n) in
-    let q : SFits w64 (quot_z (c.from.result *ℤ c.from-2.result) c.pow.result) = rw (a, b) (quot_fits _ c.ranges.m c.ranges.n) in
+    let q : SFits w64 (quot_z (c.from.result *ℤ c.from-2.result) c.signed_power_of_ten.result) = rw (a, b) (quot_fits _ c.ranges.m c.ranges.n) in
     search rules

@@ -7,7 +7,7 @@ use Rattle.cell.proofs.Signed.{fits_abs, abs_fits}
 use Rattle.cell.proofs.Tens.{scaled_bound}
 use Rattle.cell.proofs.numbers.scaled.Goals as goal
 
-fits : (c : goal.After-pow) → SFits w64 (c.args.m *ℤ pos (10 ^ c.args.k))
+fits : (c : goal.After-signed_power_of_ten) → SFits w64 (c.args.m *ℤ pos (10 ^ c.args.k))
 fits c = fits_abs (omega (arith, scaled_bound c.args.m c.args.k (abs_fits c.ranges.m) c.requires))
 
 pub returns-clause-value : goal.returns-clause-value
