@@ -6,9 +6,8 @@ use mathlib.Core.Bool.{Bool, true, false, cond}
 use mathlib.Core.List.{List, [], ◌∷◌, map}
 use mathlib.Core.Logic.{◌↔◌}
 use lib.Dec.{T, eqb}
-use borrow.Author.Rules.{rules}
 use borrow.Author.Tests.{eq-eqb, ne_eqb, eqb-true}
-use Rattle.class.specs.Class.{Dominates, dominatesb, lub_of, lub_from}
+use Rattle.class.specs.Class.{Dominates, lub_of, lub_from}
 use Rattle.class.specs.Info.{info_by, bound_of, InfoOk, info_test, join_i, joins_i, same_i, choice_i}
 use Rattle.class.specs.declared.Info.{Info}
 use Rattle.class.specs.declared.Info.TheVariants.{Fixed, Bound}
@@ -129,82 +128,3 @@ join_fits i j p q = rw (join_bound i j) (lub_fits (bound_of i) (bound_of j) p q)
 
 pub choice_fits : (i j : Info) → bound_of i < 65536 → bound_of j < 65536 → bound_of (choice_i i j) < 65536
 choice_fits i j p q = rw (choice_bound i j) (lub_fits (bound_of i) (bound_of j) p q)
-
--- ---- a law for each case of a match, and the set of them for `search`
-
-pub bound_fixed : {i : Info} {k : ℕ} → i ≡ Fixed k → k ≡ bound_of i
-unfolding bound_of
-bound_fixed e = rw e
-
-pub bound_bound : {i : Info} {b : ℕ} → i ≡ Bound b → b ≡ bound_of i
-unfolding bound_of
-bound_bound e = rw e
-
-pub by_fixed : {op b : ℕ} → op ≡ 0 → Fixed b ≡ info_by op b
-by_fixed {op} {b} e = sym (info_by_fixed b e)
-
-pub by_bound : {op b : ℕ} → (op ≡ 0 → ⊥) → Bound b ≡ info_by op b
-by_bound {op} {b} h = sym (info_by_bound b h)
-
-pub keeps_fixed : {i : Info} {k : ℕ} (c : ℕ) → i ≡ Fixed k → eqb c k ≡ info_test i c
-unfolding info_test
-keeps_fixed c e = rw e
-
-pub keeps_bound : {i : Info} {b : ℕ} {r : Bool} (c : ℕ) → i ≡ Bound b → r ≡ dominatesb b c → r ≡ info_test i c
-unfolding info_test
-keeps_bound c e h = rw e h
-
-pub join_ff : {x y : Info} {a b r : ℕ} → x ≡ Fixed a → y ≡ Fixed b → r ≡ lub_of a b → Fixed r ≡ join_i x y
-unfolding join_i
-join_ff p q h = rw (p, q, h)
-
-pub join_fb : {x y : Info} {a b r : ℕ} → x ≡ Fixed a → y ≡ Bound b → r ≡ lub_of a b → Bound r ≡ join_i x y
-unfolding join_i
-join_fb p q h = rw (p, q, h)
-
-pub join_bf : {x y : Info} {a b r : ℕ} → x ≡ Bound a → y ≡ Fixed b → r ≡ lub_of a b → Bound r ≡ join_i x y
-unfolding join_i
-join_bf p q h = rw (p, q, h)
-
-pub join_bb : {x y : Info} {a b r : ℕ} → x ≡ Bound a → y ≡ Bound b → r ≡ lub_of a b → Bound r ≡ join_i x y
-unfolding join_i
-join_bb p q h = rw (p, q, h)
-
-pub choice_same : {x y : Info} {a b : ℕ} → x ≡ Fixed a → y ≡ Fixed b → a ≡ b → Fixed a ≡ choice_i x y
-unfolding choice_i same_i
-choice_same {x} {y} {a} {b} p q e = rw (p, q, eq-eqb a b e)
-
-pub choice_ff : {x y : Info} {a b r : ℕ} → x ≡ Fixed a → y ≡ Fixed b → (a ≡ b → ⊥) → r ≡ lub_of a b → Bound r ≡ choice_i x y
-unfolding choice_i same_i bound_of
-choice_ff {x} {y} {a} {b} p q n h = rw (p, q, ne_eqb a b n, h)
-
-pub choice_fb : {x y : Info} {a b r : ℕ} → x ≡ Fixed a → y ≡ Bound b → r ≡ lub_of a b → Bound r ≡ choice_i x y
-unfolding choice_i same_i bound_of
-choice_fb p q h = rw (p, q, h)
-
-pub choice_bf : {x y : Info} {a b r : ℕ} → x ≡ Bound a → y ≡ Fixed b → r ≡ lub_of a b → Bound r ≡ choice_i x y
-unfolding choice_i same_i bound_of
-choice_bf p q h = rw (p, q, h)
-
-pub choice_bb : {x y : Info} {a b r : ℕ} → x ≡ Bound a → y ≡ Bound b → r ≡ lub_of a b → Bound r ≡ choice_i x y
-unfolding choice_i same_i bound_of
-choice_bb p q h = rw (p, q, h)
-
-pub ruleset cases = (
-  rules,
-  bound_fixed,
-  bound_bound,
-  by_fixed,
-  by_bound,
-  keeps_fixed,
-  keeps_bound,
-  join_ff,
-  join_fb,
-  join_bf,
-  join_bb,
-  choice_same,
-  choice_ff,
-  choice_fb,
-  choice_bf,
-  choice_bb,
-)

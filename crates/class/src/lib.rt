@@ -6,27 +6,20 @@ ghost use Rattle.std.specs.Prelude.{◌≡◌};
 ghost use Rattle.class.specs.Class.{dominatesb, lub_of};
 ghost use Rattle.class.specs.Info.{info_by, bound_of, join_i, choice_i, info_test};
 
-// Whether a's level is at least b's and a has every mark of b.
+/// Whether a's level is at least b's and a has every mark of b.
+#[tactic(auto, using(crate::proofs::Laws::test_high, crate::proofs::Laws::test_low), unfolding(crate::specs::Class::level))]
 pub fn dominates(a: u16, b: u16) -> bool
     ensures { result ≡ dominatesb a b }
 {
-    if b / 4096 <= a / 4096 {
-        (a | b) % 4096 == a % 4096
-    } else {
-        false
-    }
+    b / 4096 <= a / 4096 && (a | b) % 4096 == a % 4096
 }
 
-// The higher level, and the marks of either.
+/// The higher level, and the marks of either.
+#[tactic(auto, using(crate::proofs::Laws::lub_or), unfolding(crate::specs::Class::level))]
 pub fn lub(a: u16, b: u16) -> u16
     ensures { result ≡ lub_of a b }
 {
-    let marks = (a | b) % 4096;
-    if b <= a {
-        a / 4096 * 4096 + marks
-    } else {
-        b / 4096 * 4096 + marks
-    }
+    (a / 4096).max(b / 4096) * 4096 + (a | b) % 4096
 }
 
 /// What is known of a class before a row is read: it is fixed, or it has a bound that dominates it.
