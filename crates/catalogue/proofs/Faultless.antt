@@ -2,7 +2,7 @@
 -- Assumes nothing.
 use Prim.Native.Nat.{ℕ, zero, suc, ◌+◌, ◌-◌, ◌/◌, ◌%◌, ◌<◌, ◌≤◌}
 use mathlib.Core.Path.{◌≡◌, refl, sym, ◌∙◌}
-use mathlib.Core.Bool.{Bool, true, false, cond, ◌&&◌}
+use mathlib.Core.Bool.{Bool, true, false, cond, ◌&&◌, and-eq-true_iff}
 use mathlib.Core.List.{List}
 use native.Mathlib.Omega.{arith}
 use borrow.Author.Tests.{leb-true, ltb-true, eqb-true, eqb-false, eq-eqb}
@@ -10,7 +10,9 @@ use lib.Dec.{eqb, ltb, leb}
 use Rattle.word.specs.Record.{kind_at, op_at, a_at, c_at}
 use Rattle.cell.specs.Types.{type_rule}
 use Rattle.catalogue.specs.Fault.{named_rule, tables_before, columns_before, table_used, column_used, has_column, table_fault, column_fault, fault_by, fault_at}
-use Rattle.catalogue.proofs.Laws.{both}
+
+pub both : (a b : Bool) → (a && b) ≡ true → (a ≡ true) × (b ≡ true)
+both a b = (and-eq-true_iff a b).0
 
 over_23 : (b : Bool) {x : ℕ} → cond b x 23 ≡ 0 → (b ≡ true) × (x ≡ 0)
 over_23 true e = (refl, e)

@@ -4,6 +4,7 @@ use Prim.Native.Nat.{ℕ, zero, suc, ◌+◌, ◌-◌, ◌*◌, ◌<◌, ◌≤�
 use mathlib.Core.Path.{◌≡◌, refl, sym, ap, ◌∙◌}
 use mathlib.Core.Bool.{Bool, true, false, cond, ◌&&◌}
 use mathlib.Core.List.{List, ◌∷◌}
+use Rattle.std.specs.Prelude.{Result, Ok}
 use native.Mathlib.Omega.{arith}
 use native.Mathlib.Numerals.{add-one}
 use borrow.Author.Tests.{leb-true, eqb-true, eqb-false, eq-eqb}
@@ -16,11 +17,10 @@ use Rattle.word.specs.Record.{kind_at}
 use Rattle.catalogue.specs.Fault.{tables_before, fault_at, lowest, check_of}
 use Rattle.catalogue.specs.Tables.{table_at, tables_from, catalogue_of}
 use Rattle.catalogue.specs.Starts.{starts_from, starts_of, starts_array, StartsAre}
-use Rattle.catalogue.specs.declared.Verdict.{Verdict}
-use Rattle.catalogue.specs.declared.Verdict.TheVariants.{Tables, Refused}
+use Rattle.word.specs.Refusal.{Checked, fine, refusal, said}
+use Rattle.word.specs.declared.refusal.Refusal.{Refusal}
 use Rattle.word.proofs.Writing.{length_put, put_start}
-use Rattle.catalogue.proofs.Laws.{both}
-use Rattle.catalogue.proofs.Faultless.{table_ok, column_ok, two_kinds}
+use Rattle.catalogue.proofs.Faultless.{both, table_ok, column_ok, two_kinds}
 use Rattle.catalogue.proofs.Places.{starts_below, starts_kind}
 
 -- no fault among the records from i up to e
@@ -43,21 +43,21 @@ module _ (c : List ℕ) (n : ℕ) where
       go true q = let m : j ≡ i = eqb-true j i q in rw m z
       go false q = let m : j ≡ i → ⊥ = eqb-false j i q in h j (omega (arith, m)) b
 
-  pub lowest_clean : (k i t : ℕ) → lowest c n k i ≡ Tables t → Clean c n i (i + k) × (t ≡ tables_before c (i + k))
+  pub lowest_clean : (k i t : ℕ) → lowest c n k i ≡ fine t → Clean c n i (i + k) × (t ≡ tables_before c (i + k))
   unfolding lowest
   lowest_clean zero i t e = (λ j a b. absurd (omega arith), let h : tables_before c i ≡ t = cc in let z : i + zero ≡ i = omega arith in rw z (sym h))
   lowest_clean (suc k) i t e = go (lowest_clean k (i + 1) t) (eqb (fault_at c n i) 0) refl e
     where
-      go : (lowest c n k (i + 1) ≡ Tables t → Clean c n (i + 1) (i + 1 + k) × (t ≡ tables_before c (i + 1 + k))) → (b : Bool) → eqb (fault_at c n i) 0 ≡ b → cond b (lowest c n k (i + 1)) (Refused (fault_at c n i) i) ≡ Tables t → Clean c n i (i + suc k) × (t ≡ tables_before c (i + suc k))
+      go : (lowest c n k (i + 1) ≡ fine t → Clean c n (i + 1) (i + 1 + k) × (t ≡ tables_before c (i + 1 + k))) → (b : Bool) → eqb (fault_at c n i) 0 ≡ b → cond b (lowest c n k (i + 1)) (refusal (fault_at c n i) i) ≡ fine t → Clean c n i (i + suc k) × (t ≡ tables_before c (i + suc k))
       go ih true q w = let (x, y) = ih w in let z : i + 1 + k ≡ i + suc k = omega arith in (clean_more i (i + suc k) (eqb-true _ _ q) (λ j a b. x j a (omega arith)), y ∙ ap (tables_before c) z)
       go ih false q w = absurd (let h : ◌≡◌ {A = ℕ} 0 1 = cc in omega arith)
 
-  pub lowest_refused : (k i f p : ℕ) → lowest c n k i ≡ Refused f p → Lowest c n i k f p
+  pub lowest_refused : (k i f p : ℕ) → lowest c n k i ≡ refusal f p → Lowest c n i k f p
   unfolding lowest
   lowest_refused zero i f p e = absurd (let h : ◌≡◌ {A = ℕ} 0 1 = cc in omega arith)
   lowest_refused (suc k) i f p e = go (lowest_refused k (i + 1) f p) (eqb (fault_at c n i) 0) refl e
     where
-      go : (lowest c n k (i + 1) ≡ Refused f p → Lowest c n (i + 1) k f p) → (b : Bool) → eqb (fault_at c n i) 0 ≡ b → cond b (lowest c n k (i + 1)) (Refused (fault_at c n i) i) ≡ Refused f p → Lowest c n i (suc k) f p
+      go : (lowest c n k (i + 1) ≡ refusal f p → Lowest c n (i + 1) k f p) → (b : Bool) → eqb (fault_at c n i) 0 ≡ b → cond b (lowest c n k (i + 1)) (refusal (fault_at c n i) i) ≡ refusal f p → Lowest c n i (suc k) f p
       go ih true q w = let x = ih w in record {
         from = omega (arith, x.from);
         within_it = omega (arith, x.within_it);
@@ -180,11 +180,11 @@ all_tables : (c : List ℕ) (j : ℕ) → j < length (starts_of c) → kind_at c
 unfolding starts_of
 all_tables c j h = starts_kind c (count_at c) 0 j h
 
-pub accepted : (c : List ℕ) (t : ℕ) → check_of c ≡ Tables t → Accepted c t
+pub accepted : (c : List ℕ) (t : ℕ) → check_of c ≡ fine t → Accepted c t
 unfolding check_of
 accepted c t e = go (headed drc c) (within 1 2080 (count_at c) && eqb (length c) (8 + 8 * count_at c)) refl e
   where
-    go : (a b : Bool) → (within 1 2080 (count_at c) && eqb (length c) (8 + 8 * count_at c)) ≡ b → cond a (cond b (lowest c (count_at c) (count_at c) 0) (Refused 22 0)) (Refused 21 0) ≡ Tables t → Accepted c t
+    go : (a b : Bool) → (within 1 2080 (count_at c) && eqb (length c) (8 + 8 * count_at c)) ≡ b → cond a (cond b (lowest c (count_at c) (count_at c) 0) (refusal 22 0)) (refusal 21 0) ≡ fine t → Accepted c t
     go false b q w = absurd (let h : ◌≡◌ {A = ℕ} 0 1 = cc in omega arith)
     go true false q w = absurd (let h : ◌≡◌ {A = ℕ} 0 1 = cc in omega arith)
     go true true q w =
@@ -212,9 +212,9 @@ accepted c t e = go (headed drc c) (within 1 2080 (count_at c) && eqb (length c)
 
 -- ---- what a caller has of the check's answer
 
-module _ (c : List ℕ) (t : ℕ) (v : Verdict) (e : v ≡ check_of c) (f : v ≡ Tables t) where
+module _ (c : List ℕ) (t : ℕ) (v : Result ℕ Refusal) (e : said v ≡ check_of c) (f : v ≡ Ok t) where
   pub taken : Accepted c t
-  taken = accepted c t (sym e ∙ f)
+  taken = accepted c t (sym e ∙ ap said f)
 
   -- the header may be read
   pub taken_header : 6 + 2 ≤ length c

@@ -7,7 +7,8 @@ use mathlib.Core.List.{List, [], ◌∷◌, ◌++◌}
 use native.Mathlib.Omega.{arith}
 use native.Mathlib.Numerals.{add-one}
 use borrow.Author.Rules.{rules}
-use borrow.Author.Tests.{eq-eqb, ne_eqb, lt-ltb, le-ltb, eqb-true, ltb-false}
+use borrow.Author.Tests.{eq-eqb, ne_eqb, eqb-true}
+use Rattle.std.specs.Prelude.{Option, Some, None, MatchOption}
 use lib.Dec.{eqb, ltb}
 use lib.ListN.{length, get_or, set, drop, replicate, drop_of_length-le}
 use lib.Seq.{drop-cons, set_out, get_or-take, length-take-le}
@@ -16,7 +17,7 @@ use Rattle.word.specs.Record.{kind_at, a_at}
 use Rattle.word.proofs.Writing.{put_nil, put_one, Todo, todo_all, todo_same, todo_less, todo_none, kept}
 use Rattle.cell.specs.Res.{Res, stuck, done}
 use Rattle.catalogue.specs.Tables.{TabRef, table_at, tables_from, later, table_named}
-use Rattle.catalogue.specs.Starts.{starts_from, starts_array, StartsAre, ref_by}
+use Rattle.catalogue.specs.Starts.{starts_from, starts_array, StartsAre, ref_of}
 
 -- ---- the array, as the code fills it
 
@@ -68,6 +69,16 @@ module _ (c : List ℕ) where
 
       pub filled_slots : (o' : List ℕ) (r : ℕ) → Wrote o t (starts_from c 1 i) o' r → length o ≡ 32 → length o' ≡ 32
       filled_slots o' r w h = kept w ∙ h
+
+      -- one record further: a table's record in the array, one past it, another record
+      pub filled_here : {o' : List ℕ} {t' : ℕ} → kind_at c i ≡ 1 → t < 32 → i < n → o' ≡ set o t i → t' ≡ t + 1 → (t ≤ i) × (length o ≡ 32) × Filled o t i → (t' ≤ i + 1) × (length o' ≡ 32) × Filled o' t' (i + 1)
+      filled_here k h l e f (a, b, d) = rw (e, f) (omega arith, filled_slots _ _ (note_one o t i _ refl k) b, filled_more _ _ l (note_one o t i _ refl k) d)
+
+      pub filled_out : {o' : List ℕ} {t' : ℕ} → kind_at c i ≡ 1 → 32 ≤ t → i < n → o' ≡ o → t' ≡ t + 1 → (t ≤ i) × (length o ≡ 32) × Filled o t i → (t' ≤ i + 1) × (length o' ≡ 32) × Filled o' t' (i + 1)
+      filled_out k h l e f (a, b, d) = rw (e, f) (omega arith, b, filled_more _ _ l (note_full o t i _ refl k b h) d)
+
+      pub filled_over : {o' : List ℕ} {t' : ℕ} → (kind_at c i ≡ 1 → ⊥) → i < n → o' ≡ o → t' ≡ t → (t ≤ i) × (length o ≡ 32) × Filled o t i → (t' ≤ i + 1) × (length o' ≡ 32) × Filled o' t' (i + 1)
+      filled_over k l e f (a, b, d) = rw (e, f) (omega arith, b, filled_more _ _ l (note_none o t i _ refl k) d)
 
       pub filled_all : n ≤ i → Filled o t i → o ≡ starts_array c n
       unfolding starts_array starts_from
@@ -158,38 +169,28 @@ module _ (c : List ℕ) (n name : ℕ) where
     unfolding named_in
     find_step h = x ∙ rw (add-one j, start_is c n tables ss a j h, drop-cons (starts_from c n 0) j 0 (omega (arith, starts_number c n tables ss a)))
 
-    module _ (i w : ℕ) (h : j < tables) (f : i ≡ get_or ss j 0) (g : w ≡ a_at c i) where
-      pub find_here : w ≡ name → X ≡ ref_by c n ss tables j
-      unfolding ref_by
-      find_here z = find_step h ∙ rw (← f, eq-eqb (a_at c i) name (sym g ∙ z), lt-ltb j tables h)
+    find_here : j < tables → a_at c (get_or ss j 0) ≡ name → X ≡ ref_of c n ss (Some j)
+    unfolding ref_of
+    find_here h z = find_step h ∙ rw (eq-eqb (a_at c (get_or ss j 0)) name z)
 
-      pub find_again : (w ≡ name → ⊥) → X ≡ named_in (j + 1) (drop (j + 1) (starts_from c n 0))
-      find_again z = find_step h ∙ rw (← f, ne_eqb (a_at c i) name (λ y. z (g ∙ y)))
+    find_again : j < tables → (a_at c (get_or ss j 0) ≡ name → ⊥) → X ≡ named_in (j + 1) (drop (j + 1) (starts_from c n 0))
+    find_again h z = find_step h ∙ rw (ne_eqb (a_at c (get_or ss j 0)) name z)
 
-    pub find_none : tables ≤ j → X ≡ ref_by c n ss tables tables
-    unfolding ref_by named_in
+    find_none : tables ≤ j → X ≡ ref_of c n ss None
+    unfolding ref_of named_in
     find_none h =
         let l : length (starts_from c n 0) ≤ j = omega (arith, starts_number c n tables ss a) in
-        x ∙ rw (drop_of_length-le (starts_from c n 0) l, le-ltb tables tables (omega arith))
+        x ∙ rw (drop_of_length-le (starts_from c n 0) l)
 
--- what the number that was found says: below `tables` a table, from there on none; and it is the only one
-module _ (c : List ℕ) (n : ℕ) (ss : List ℕ) (tables r : ℕ) where
-  pub ref_found : r < tables → ref_by c n ss tables r ≡ done (record { num = r; table = table_at c n (get_or ss r 0) })
-  unfolding ref_by
-  ref_found h = rw (lt-ltb r tables h)
+  -- the first table of the name, if none before it has the name; and none, if none has it
+  module _ (tables : ℕ) (ss : List ℕ) (a : StartsAre c n tables ss) where
+    find_from : (j : ℕ) → j ≤ tables → ((k : ℕ) → k < j → a_at c (get_or ss k 0) ≡ name → ⊥) → table_named name (tables_from c n n 0) ≡ named_in j (drop j (starts_from c n 0))
+    find_from zero h u = find_begin
+    find_from (suc j) h u =
+        rw (← add-one j) (find_again tables ss a j (find_from j (omega arith) (λ k l. u k (omega arith))) (omega arith) (u j (omega arith)))
 
-  pub ref_none : tables ≤ r → ref_by c n ss tables r ≡ stuck
-  unfolding ref_by
-  ref_none h = rw (le-ltb r tables h)
-
-  pub found_once : (q : ℕ) → ref_by c n ss tables r ≡ ref_by c n ss tables q → r ≤ tables → q ≤ tables → r ≡ q
-  unfolding ref_by
-  found_once q e h k = go (ltb r tables) (ltb q tables) (record { num = r; table = table_at c n (get_or ss r 0) }) (record { num = q; table = table_at c n (get_or ss q 0) }) refl refl e refl refl
-    where
-      go : (a b : Bool) (x y : TabRef) → ltb r tables ≡ a → ltb q tables ≡ b → cond a (done x) stuck ≡ cond b (done y) stuck → x.num ≡ r → y.num ≡ q → r ≡ q
-      go true true x y f g w d e = let v : x ≡ y = cc in sym d ∙ ap (λ t. t.num) v ∙ e
-      go true false x y f g w d e = absurd (let z : ◌≡◌ {A = ℕ} 0 1 = cc in omega arith)
-      go false true x y f g w d e = absurd (let z : ◌≡◌ {A = ℕ} 0 1 = cc in omega arith)
-      go false false x y f g w d e = omega (arith, ltb-false r tables f, ltb-false q tables g)
-
-pub ruleset finds = (start_fits, find_begin, find_here, find_again, find_none, rules)
+    pub find_first : (r : Option ℕ)
+        → MatchOption r ((k : ℕ) → 0 ≤ k → k < tables → a_at c (get_or ss k 0) ≡ name → ⊥) (λ j. (0 ≤ j) × (j < tables) × (a_at c (get_or ss j 0) ≡ name) × ((k : ℕ) → 0 ≤ k → k < j → a_at c (get_or ss k 0) ≡ name → ⊥))
+        → table_named name (tables_from c n n 0) ≡ ref_of c n ss r
+    find_first None u = find_none tables ss a tables (find_from tables (omega arith) (λ k l. u k (omega arith) l)) (omega arith)
+    find_first (Some j) (_, h, e, u) = find_here tables ss a j (find_from j (omega arith) (λ k l. u k (omega arith) l)) h e

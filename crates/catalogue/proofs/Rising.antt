@@ -52,22 +52,3 @@ module _ (c : List ℕ) (i kind name t r : ℕ) (e : kind ≡ kind_at c i) (f : 
       record {
         unused = λ m l. rw (add-one i, ← e, ← f) (column_more kind name t m (eqb kind 1) (eqb kind 2) (column_used c m i) (rw (← q) l) (h.unused m));
       }
-
--- the highest names, by kind
-module _ (kind name t : ℕ) where
-  pub table_top_here : {r : ℕ} → kind ≡ 1 → r ≡ max t name → r ≡ table_top kind name t
-  table_top_here x y = y ∙ rw (eq-eqb kind 1 x)
-
-  pub table_top_same : (kind ≡ 1 → ⊥) → t ≡ table_top kind name t
-  table_top_same x = rw (ne_eqb kind 1 x)
-
-  pub column_top_none : kind ≡ 1 → 0 ≡ column_top kind name t
-  column_top_none x = rw (eq-eqb kind 1 x)
-
-  pub column_top_here : {r : ℕ} → (kind ≡ 1 → ⊥) → kind ≡ 2 → r ≡ max t name → r ≡ column_top kind name t
-  column_top_here x z y = y ∙ rw (ne_eqb kind 1 x, eq-eqb kind 2 z)
-
-  pub column_top_same : (kind ≡ 1 → ⊥) → (kind ≡ 2 → ⊥) → t ≡ column_top kind name t
-  column_top_same x z = rw (ne_eqb kind 1 x, ne_eqb kind 2 z)
-
-pub ruleset tops = (table_top_here, table_top_same, column_top_none, column_top_here, column_top_same, rules)

@@ -12,7 +12,7 @@ use Rattle.cell.specs.Types.{type_by, type_rule, digits_rule}
 use Rattle.cell.specs.declared.Type.TheVariants as T
 use Rattle.catalogue.specs.Fault.{check_of, lowest, fault_by, table_fault, tables_before, has_column, table_used, column_fault, columns_before, column_used}
 use Rattle.catalogue.specs.Tables.{catalogue_of, tables_from, table_at, cols_from, column_at}
-use Rattle.catalogue.specs.declared.Verdict.TheVariants.{Tables, Refused}
+use Rattle.word.specs.Refusal.{Checked, fine, refusal}
 
 -- a table of a name; a boolean column of a name; a column of a name and a type word
 abbrev table : ℕ → List ℕ
@@ -64,12 +64,12 @@ pub worked_cases : map check_of (
     -- 23 before 24 at one record
     (header drc 3 ++ (table 7 ++ (column 20 ++ table 7))) ∷
     []) ≡
-    Tables 1 ∷ Tables 2 ∷
-    Refused 21 0 ∷ Refused 21 0 ∷ Refused 21 0 ∷
-    Refused 22 0 ∷ Refused 22 0 ∷ Refused 22 0 ∷
-    Refused 23 0 ∷ Refused 23 1 ∷ Refused 23 0 ∷ Refused 23 1 ∷ Refused 23 0 ∷ Refused 23 1 ∷
-    Refused 23 1 ∷ Refused 23 1 ∷ Refused 23 1 ∷ Refused 23 1 ∷ Refused 23 1 ∷
-    Refused 24 2 ∷ Refused 24 3 ∷ Tables 2 ∷ Refused 23 2 ∷ []
+    fine 1 ∷ fine 2 ∷
+    refusal 21 0 ∷ refusal 21 0 ∷ refusal 21 0 ∷
+    refusal 22 0 ∷ refusal 22 0 ∷ refusal 22 0 ∷
+    refusal 23 0 ∷ refusal 23 1 ∷ refusal 23 0 ∷ refusal 23 1 ∷ refusal 23 0 ∷ refusal 23 1 ∷
+    refusal 23 1 ∷ refusal 23 1 ∷ refusal 23 1 ∷ refusal 23 1 ∷ refusal 23 1 ∷
+    refusal 24 2 ∷ refusal 24 3 ∷ fine 2 ∷ refusal 23 2 ∷ []
 unfolding check_of headed header le16 rec_bytes type_rule digits_rule lowest fault_by table_fault tables_before has_column table_used column_fault columns_before column_used
 worked_cases = refl
 

@@ -1,12 +1,12 @@
 -- What is wrong with a catalogue (21 to 24): for each record its fault, and the lowest record that has one.
 -- Assumes nothing.
-use Rattle.std.specs.Prelude.{ℕ, zero, suc, ◌+◌, ◌-◌, ◌*◌, ◌/◌, ◌%◌, Bool, true, false, cond, ◌&&◌, List, length, eqb, ltb, leb}
+use Rattle.std.specs.Prelude.{ℕ, zero, suc, ◌+◌, ◌-◌, ◌*◌, ◌/◌, ◌%◌, Bool, true, false, cond, ◌&&◌, List, Option, Some, None, length, eqb, ltb, leb}
 use Rattle.word.specs.Bytes.{within}
 use Rattle.word.specs.Header.{drc, headed, count_at}
 use Rattle.word.specs.Record.{kind_at, op_at, a_at, c_at}
 use Rattle.cell.specs.Types.{type_rule}
-use Rattle.catalogue.specs.declared.Verdict.{Verdict}
-use Rattle.catalogue.specs.declared.Verdict.TheVariants.{Tables, Refused}
+use Rattle.word.specs.Refusal.{Checked, fine, refusal, number_of}
+use Rattle.word.specs.declared.refusal.Reason.{Reason}
 
 -- a name isn't 0, and op is 0 (the class is fixed) or 1 (stored, within a bound)
 abbrev pub named_rule : ℕ → ℕ → Bool
@@ -67,14 +67,19 @@ fault_by c n i tables columns =
 abbrev pub fault_at : List ℕ → ℕ → ℕ → ℕ
 fault_at c n i = fault_by c n i (tables_before c i) (columns_before c i)
 
+-- the number of a fault, 0 for none
+abbrev pub fault_number : Option Reason → ℕ
+fault_number None = 0
+fault_number (Some reason) = number_of reason
+
 -- THE LOWEST FAULT among the k records from i, of n; with none, the number of tables
-unfoldable pub lowest : List ℕ → ℕ → ℕ → ℕ → Verdict
-lowest c n zero i = Tables (tables_before c i)
-lowest c n (suc k) i = let more = lowest c n k (i + 1) in cond (eqb (fault_at c n i) 0) more (Refused (fault_at c n i) i)
+unfoldable pub lowest : List ℕ → ℕ → ℕ → ℕ → Checked ℕ
+lowest c n zero i = fine (tables_before c i)
+lowest c n (suc k) i = let more = lowest c n k (i + 1) in cond (eqb (fault_at c n i) 0) more (refusal (fault_at c n i) i)
 
 -- THE CHECK: header (21), count and length (22), records (23, 24)
-unfoldable pub check_of : List ℕ → Verdict
+unfoldable pub check_of : List ℕ → Checked ℕ
 check_of c =
     cond (headed drc c)
-    (cond (within 1 2080 (count_at c) && eqb (length c) (8 + 8 * count_at c)) (lowest c (count_at c) (count_at c) 0) (Refused 22 0))
-    (Refused 21 0)
+    (cond (within 1 2080 (count_at c) && eqb (length c) (8 + 8 * count_at c)) (lowest c (count_at c) (count_at c) 0) (refusal 22 0))
+    (refusal 21 0)

@@ -1,6 +1,6 @@
 -- Where the tables stand: the numbers of their records, found once and held in an array of 32.
 -- Assumes nothing.
-use Rattle.std.specs.Prelude.{ℕ, zero, suc, ◌+◌, ◌≤◌, ◌≡◌, cond, List, [], ◌∷◌, eqb, ltb, length, get_or, take, replicate}
+use Rattle.std.specs.Prelude.{ℕ, zero, suc, ◌+◌, ◌≤◌, ◌≡◌, cond, List, [], ◌∷◌, Option, Some, None, eqb, length, get_or, take, replicate}
 use Rattle.word.specs.Buffer.{put}
 use Rattle.word.specs.Header.{count_at}
 use Rattle.word.specs.Record.{kind_at}
@@ -26,6 +26,7 @@ pub record StartsAre (c : List ℕ) (n tables : ℕ) (ss : List ℕ) : Type 0 wh
   pub slots : length ss ≡ 32
   pub are : take tables ss ≡ starts_from c n 0
 
--- the table of number r, by these numbers; there is none from `tables` on
-unfoldable pub ref_by : List ℕ → ℕ → List ℕ → ℕ → ℕ → Res TabRef
-ref_by c n ss tables r = cond (ltb r tables) (done (record { num = r; table = table_at c n (get_or ss r 0) })) stuck
+-- the table of a number among these, if there is a number
+unfoldable pub ref_of : List ℕ → ℕ → List ℕ → Option ℕ → Res TabRef
+ref_of c n ss None = stuck
+ref_of c n ss (Some j) = done (record { num = j; table = table_at c n (get_or ss j 0) })

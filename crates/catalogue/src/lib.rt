@@ -2,71 +2,26 @@
 // The definitions are in specs/: Fault has the check, Tables what a catalogue says, Starts where its tables stand.
 #![tactic(auto)]
 
-mod lookup;
+ghost use Rattle.std.specs.Prelude.{◌≡◌, ℕ, ◌+◌, ◌-◌, ◌*◌, ◌≤◌, ◌<◌, length};
+ghost use Rattle.word.specs.Refusal.{said};
+ghost use Rattle.catalogue.specs.Fault.{named_rule, one_table, one_column, table_used, column_used, has_column, table_fault, column_fault, fault_at, fault_number, lowest, check_of};
+ghost use Rattle.catalogue.specs.Rising.{TablesTo, ColumnsTo, Sees, table_top, column_top};
 
-ghost use Rattle.std.specs.Prelude.{◌≡◌, ℕ, ◌+◌, ◌-◌, ◌*◌, ◌≤◌, ◌<◌, max, length};
-ghost use Rattle.catalogue.specs.Fault.{named_rule, one_table, one_column, table_used, column_used, has_column, table_fault, column_fault, fault_by, lowest, check_of};
-ghost use Rattle.catalogue.specs.Rising.{TablesTo, ColumnsTo, table_top, column_top};
+mod lookup;
 
 pub use lookup::{find_table, info_at, start_at, starts, type_at};
 
-// The number of tables; or the number of the refusal and its place.
-#[derive(Drop)]
-pub enum Verdict {
-    Tables(usize),
-    Refused(u16, usize),
-}
+use word::{Reason, Record, Refusal};
 
 // Whether a name isn't 0 and op is 0 or 1.
-fn named_rule(name: u16, op: u8) -> bool
-    ensures { result ≡ named_rule name op }
+fn named_rule(at: Record) -> bool
+    ensures { result ≡ named_rule at.a at.op }
 {
-    (1 <= name) & (op <= 1)
-}
-
-// The number of tables, one record further.
-fn one_table(kind: u8, tables: usize) -> usize
-    requires { tables < 65536 }
-    ensures { result ≡ one_table kind tables }
-{
-    if kind == 1 { tables + 1 } else { tables }
-}
-
-// The number of columns of the last table, one record further.
-fn one_column(kind: u8, columns: usize) -> usize
-    requires { columns < 65536 }
-    ensures { result ≡ one_column kind columns }
-{
-    if kind == 1 {
-        return 0;
-    }
-    if kind == 2 { columns + 1 } else { columns }
-}
-
-fn higher(x: u16, y: u16) -> u16
-    ensures { result ≡ max x y }
-{
-    if x < y { y } else { x }
-}
-
-// The highest name of a table, one record further.
-fn table_top(kind: u8, name: u16, top: u16) -> u16
-    ensures { result ≡ table_top kind name top }
-{
-    if kind == 1 { higher(top, name) } else { top }
-}
-
-// The highest name of a column of the last table, one record further.
-fn column_top(kind: u8, name: u16, top: u16) -> u16
-    ensures { result ≡ column_top kind name top }
-{
-    if kind == 1 {
-        return 0;
-    }
-    if kind == 2 { higher(top, name) } else { top }
+    1 <= at.a && at.op <= 1
 }
 
 // Whether a table record before record i has the name; top is the highest name of one.
+#[tactic(auto, using(crate::proofs::Laws::looks), unfolding(word::specs::Record::rec_at))]
 fn table_used(cat: &[u8], i: usize, name: u16, top: u16) -> bool
     requires i_in_bounds { 8 + 8 * i ≤ length cat.now }
     requires tables_to { TablesTo cat.now i top }
@@ -75,12 +30,9 @@ fn table_used(cat: &[u8], i: usize, name: u16, top: u16) -> bool
     if top < name {
         return false;
     }
-    let mut j = i;
-    while 0 < j {
-        j -= 1;
-        let kind = word::kind_at(cat, j);
-        let a = word::a_at(cat, j);
-        if (kind == 1) & (a == name) {
+    for j in (0..i).rev() {
+        let at = word::record_at(cat, j);
+        if at.kind == 1 && at.a == name {
             return true;
         }
     }
@@ -88,6 +40,7 @@ fn table_used(cat: &[u8], i: usize, name: u16, top: u16) -> bool
 }
 
 // Whether a column record before record i, and after the last table record, has the name; top is the highest name of one.
+#[tactic(auto, using(crate::proofs::Laws::looks), unfolding(word::specs::Record::rec_at))]
 fn column_used(cat: &[u8], i: usize, name: u16, top: u16) -> bool
     requires i_in_bounds { 8 + 8 * i ≤ length cat.now }
     requires columns_to { ColumnsTo cat.now i top }
@@ -96,151 +49,155 @@ fn column_used(cat: &[u8], i: usize, name: u16, top: u16) -> bool
     if top < name {
         return false;
     }
-    let mut j = i;
-    while 0 < j {
-        j -= 1;
-        let kind = word::kind_at(cat, j);
-        if kind == 1 {
-            return false;
-        }
-        let a = word::a_at(cat, j);
-        if (kind == 2) & (a == name) {
-            return true;
+    for j in (0..i).rev() {
+        let at = word::record_at(cat, j);
+        match at.kind {
+            1 => return false,
+            2 if at.a == name => return true,
+            _ => {}
         }
     }
     false
 }
 
 // Whether a column stands at record i or after it, before the next table.
+#[tactic(auto, using(crate::proofs::Laws::looks), unfolding(word::specs::Record::rec_at))]
 fn has_column(cat: &[u8], n: usize, i: usize) -> bool
     requires { (8 + 8 * n ≤ length cat.now) × (i ≤ n) }
     ensures { result ≡ has_column cat.now (n - i) i }
 {
-    let mut j = i;
-    while j < n {
-        let kind = word::kind_at(cat, j);
-        if kind == 2 {
-            return true;
+    for j in i..n {
+        match word::record_at(cat, j).kind {
+            2 => return true,
+            1 => return false,
+            _ => {}
         }
-        if kind == 1 {
-            return false;
-        }
-        j += 1;
     }
     false
 }
 
-// The fault of a table's record, with so many tables before it; 0 for none.
-fn table_fault(cat: &[u8], n: usize, i: usize, tables: usize, top: u16) -> u16
-    requires n_in_bounds { (8 + 8 * n ≤ length cat.now) × (i < n) }
-    requires tables_to { TablesTo cat.now i top }
-    ensures { result ≡ table_fault cat.now n i tables }
-{
-    let name = word::a_at(cat, i);
-    let op = word::op_at(cat, i);
-    let named = named_rule(name, op);
-    if named & (tables < 32) {
-        if has_column(cat, n, i + 1) {
-            if table_used(cat, i, name, top) { 24 } else { 0 }
-        } else {
-            23
-        }
-    } else {
-        23
-    }
-}
-
-// The fault of a column's record, with so many tables before it, the last with so many columns; 0 for none.
-fn column_fault(cat: &[u8], i: usize, tables: usize, columns: usize, top: u16) -> u16
-    requires i_in_bounds { 8 + 8 * i + 8 ≤ length cat.now }
-    requires columns_to { ColumnsTo cat.now i top }
-    ensures { result ≡ column_fault cat.now i tables columns }
-{
-    let name = word::a_at(cat, i);
-    let op = word::op_at(cat, i);
-    let named = named_rule(name, op);
-    if named & ((0 < tables) & (columns < 64)) {
-        let ty = word::c_at(cat, i);
-        if cell::type_rule(ty) {
-            if column_used(cat, i, name, top) {
-                24
-            } else {
-                0
-            }
-        } else {
-            23
-        }
-    } else {
-        23
-    }
-}
-
-// The fault of a record, by its kind; with the highest names before it.
-fn fault_by(
-    cat: &[u8],
-    n: usize,
-    i: usize,
+// What the records before a record say: how many tables, how many columns the last of them has, the highest name of a
+// table, and the highest name of a column of the last table.
+#[derive(Clone, Copy, PartialEq, Eq, Debug)]
+struct Seen {
     tables: usize,
     columns: usize,
     highest: u16,
     top: u16,
-) -> u16
-    requires n_in_bounds { (8 + 8 * n ≤ length cat.now) × (i < n) }
-    requires tables_to { TablesTo cat.now i highest × ColumnsTo cat.now i top }
-    ensures { result ≡ fault_by cat.now n i tables columns }
-{
-    let kind = word::kind_at(cat, i);
-    if kind == 1 {
-        return table_fault(cat, n, i, tables, highest);
+}
+
+impl Seen {
+    // What is seen before the first record.
+    const NOTHING: Seen = Seen {
+        tables: 0,
+        columns: 0,
+        highest: 0,
+        top: 0,
+    };
+
+    // What is seen, one record further.
+    fn after(self, next: Record) -> Seen
+        requires few { (self.tables < 65536) × (self.columns < 65536) }
+        ensures tables { result.tables ≡ one_table next.kind self.tables }
+        ensures columns { result.columns ≡ one_column next.kind self.columns }
+        ensures highest { result.highest ≡ table_top next.kind next.a self.highest }
+        ensures top { result.top ≡ column_top next.kind next.a self.top }
+    {
+        match next.kind {
+            1 => Seen {
+                tables: self.tables + 1,
+                columns: 0,
+                highest: self.highest.max(next.a),
+                top: 0,
+            },
+            2 => Seen {
+                columns: self.columns + 1,
+                top: self.top.max(next.a),
+                ..self
+            },
+            _ => self,
+        }
     }
-    if kind == 2 {
-        return column_fault(cat, i, tables, columns, top);
+
+    // The fault of record i, a table's.
+    #[tactic(auto, unfolding(crate::specs::Fault::table_fault, word::specs::Record::rec_at))]
+    fn table_fault(&self, cat: &[u8], n: usize, i: usize) -> Option<Reason>
+        requires n_in_bounds { (8 + 8 * n ≤ length cat.now) × (i < n) }
+        requires seen { Sees cat.now i self.now }
+        ensures { fault_number result ≡ table_fault cat.now n i self.now.tables }
+    {
+        let at = word::record_at(cat, i);
+        if !named_rule(at) || 32 <= self.tables || !has_column(cat, n, i + 1) {
+            return Some(Reason::CatalogueRule);
+        }
+        table_used(cat, i, at.a, self.highest).then_some(Reason::NameUsed)
     }
-    23
+
+    // The fault of record i, a column's.
+    #[tactic(auto, unfolding(crate::specs::Fault::column_fault, word::specs::Record::rec_at))]
+    fn column_fault(&self, cat: &[u8], i: usize) -> Option<Reason>
+        requires i_in_bounds { 8 + 8 * i + 8 ≤ length cat.now }
+        requires seen { Sees cat.now i self.now }
+        ensures { fault_number result ≡ column_fault cat.now i self.now.tables self.now.columns }
+    {
+        let at = word::record_at(cat, i);
+        if !named_rule(at) || self.tables == 0 || 64 <= self.columns || !cell::type_rule(at.c) {
+            return Some(Reason::CatalogueRule);
+        }
+        column_used(cat, i, at.a, self.top).then_some(Reason::NameUsed)
+    }
+
+    // The fault of record i, by its kind.
+    #[tactic(auto, unfolding(crate::specs::Fault::fault_by, word::specs::Record::rec_at))]
+    fn fault(&self, cat: &[u8], n: usize, i: usize) -> Option<Reason>
+        requires n_in_bounds { (8 + 8 * n ≤ length cat.now) × (i < n) }
+        requires seen { Sees cat.now i self.now }
+        ensures { fault_number result ≡ fault_at cat.now n i }
+    {
+        match word::record_at(cat, i).kind {
+            1 => self.table_fault(cat, n, i),
+            2 => self.column_fault(cat, i),
+            _ => Some(Reason::CatalogueRule),
+        }
+    }
 }
 
 // The lowest fault of n records; with none, the number of tables.
-fn records(cat: &[u8], n: usize) -> Verdict
+#[tactic(auto, using(crate::proofs::Laws::lows))]
+fn records(cat: &[u8], n: usize) -> Result<usize, Refusal>
     requires { (8 + 8 * n ≤ length cat.now) × (n ≤ 2080) }
-    ensures { result ≡ lowest cat.now n n 0 }
+    ensures { said result ≡ lowest cat.now n n 0 }
 {
-    let mut i: usize = 0;
-    let mut tables: usize = 0;
-    let mut columns: usize = 0;
-    let mut highest: u16 = 0;
-    let mut top: u16 = 0;
-    while i < n {
-        let fault = fault_by(cat, n, i, tables, columns, highest, top);
-        if fault != 0 {
-            return Verdict::Refused(fault, i);
+    let mut seen = Seen::NOTHING;
+    for i in 0..n {
+        if let Some(reason) = seen.fault(cat, n, i) {
+            return Err(Refusal {
+                reason,
+                place: i as u16,
+            });
         }
-        let kind = word::kind_at(cat, i);
-        let name = word::a_at(cat, i);
-        tables = one_table(kind, tables);
-        columns = one_column(kind, columns);
-        highest = table_top(kind, name, highest);
-        top = column_top(kind, name, top);
-        i += 1;
+        seen = seen.after(word::record_at(cat, i));
     }
-    Verdict::Tables(tables)
+    Ok(seen.tables)
 }
 
-// The check of a catalogue, for any bytes.
-pub fn check(cat: &[u8]) -> Verdict
-    ensures { result ≡ check_of cat.now }
+/// The check of a catalogue, for any bytes: the number of its tables; or the refusal, with the number of a record.
+#[tactic(auto, using(word::proofs::Laws::headed_long), unfolding(crate::specs::Fault::check_of))]
+pub fn check(cat: &[u8]) -> Result<usize, Refusal>
+    ensures { said result ≡ check_of cat.now }
 {
-    if word::opens(cat, b"DRC\0") {
-        let n = word::u16_at(cat, 6) as usize;
-        if (1 <= n) & (n <= 2080) {
-            if cat.len() == 8 + 8 * n {
-                records(cat, n)
-            } else {
-                Verdict::Refused(22, 0)
-            }
-        } else {
-            Verdict::Refused(22, 0)
-        }
-    } else {
-        Verdict::Refused(21, 0)
+    if !word::opens(cat, b"DRC\0") {
+        return Err(Refusal {
+            reason: Reason::CatalogueHeader,
+            place: 0,
+        });
     }
+    let n = usize::from(word::u16_at(cat, 6));
+    if n < 1 || 2080 < n || cat.len() != 8 + 8 * n {
+        return Err(Refusal {
+            reason: Reason::CatalogueLength,
+            place: 0,
+        });
+    }
+    records(cat, n)
 }

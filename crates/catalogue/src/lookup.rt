@@ -1,88 +1,62 @@
 // The look-ups in a catalogue: where its tables stand, a table by its name, the type and the class of a record.
 // A caller holds the tables' records in an array, which `starts` fills once.
-ghost use Rattle.std.specs.Prelude.{◌≡◌, ℕ, ◌+◌, ◌*◌, ◌≤◌, ◌<◌, length, get_or};
-ghost use Rattle.word.specs.Buffer.{Wrote};
+ghost use Rattle.std.specs.Prelude.{◌≡◌, ◌+◌, ◌*◌, ◌≤◌, ◌<◌, length, get_or, IfSome};
 ghost use Rattle.word.specs.Record.{op_at, b_at};
 ghost use Rattle.class.specs.Info.{info_by};
 ghost use Rattle.catalogue.specs.Tables.{column_at, tables_from, table_named};
-ghost use Rattle.catalogue.specs.Starts.{starts_from, starts_array, StartsAre, ref_by};
+ghost use Rattle.catalogue.specs.Starts.{starts_array, StartsAre, ref_of};
 
-fn index(x: u16) -> usize
-    ensures { result ≡ x }
-{
-    x as usize
-}
-
-// Record i, if it is a table's, goes to the next place of the array; past the last place it is left out.
-fn note(cat: &[u8], i: usize, slots: &mut [u16; 32], t: usize) -> usize
-    requires i_in_bounds { (8 + 8 * i + 8 ≤ length cat.now) × (i < 2080) × (t ≤ i) }
-    requires slots_len { length slots.old ≡ 32 }
-    ensures { Wrote slots.old t (starts_from cat.now 1 i) slots.new result }
-{
-    if word::kind_at(cat, i) != 1 {
-        return t;
-    }
-    if t < 32 {
-        slots[t] = i as u16;
-        return t + 1;
-    }
-    t + 1
-}
-
-// The tables' records, among n.
+/// The records of the tables among n records, in order, in an array for 32: zeros stand after them, and a 33rd is left out.
 pub fn starts(cat: &[u8], n: usize) -> [u16; 32]
     requires { (8 + 8 * n ≤ length cat.now) × (n ≤ 2080) }
     ensures { result ≡ starts_array cat.now n }
 {
     let mut slots = [0u16; 32];
-    let mut t: usize = 0;
-    let mut i: usize = 0;
-    while i < n {
-        t = note(cat, i, &mut slots, t);
-        i += 1;
+    let mut tables = 0;
+    for i in 0..n {
+        if word::record_at(cat, i).kind == 1 {
+            if tables < slots.len() {
+                slots[tables] = i as u16;
+            }
+            tables += 1;
+        }
     }
     slots
 }
 
-// The record of table j.
+/// The record of table j.
+#[tactic(auto, using(crate::proofs::Places::start_below))]
 pub fn start_at(cat: &[u8], n: usize, starts: &[u16; 32], tables: usize, j: usize) -> usize
     requires starts_are { StartsAre cat.now n tables starts.now }
     requires j_lt_tables { j < tables }
     ensures { (result ≡ get_or starts.now j 0) × (result < n) }
 {
-    index(starts[j])
+    usize::from(starts[j])
 }
 
-// The number of the table of a name; `tables` where there is none.
-pub fn find_table(cat: &[u8], n: usize, starts: &[u16; 32], tables: usize, name: u16) -> usize
+/// The number among the tables of the one with a name, if there is one.
+pub fn find_table(cat: &[u8], n: usize, starts: &[u16; 32], tables: usize, name: u16) -> Option<usize>
     requires n_in_bounds { 8 + 8 * n ≤ length cat.now }
     requires starts_are { StartsAre cat.now n tables starts.now }
-    ensures { (table_named name (tables_from cat.now n n 0) ≡ ref_by cat.now n starts.now tables result) × (result ≤ tables) }
+    ensures found { table_named name (tables_from cat.now n n 0) ≡ ref_of cat.now n starts.now result }
+    ensures few { IfSome result (λ j. j < tables) }
 {
-    let mut j: usize = 0;
-    while j < tables {
-        let i = start_at(cat, n, starts, tables, j);
-        let a = word::a_at(cat, i);
-        if a == name {
-            return j;
-        }
-        j += 1;
-    }
-    tables
+    (0..tables).find(|&j| word::record_at(cat, start_at(cat, n, starts, tables, j)).a == name)
 }
 
-// The type of the column of record i.
+/// The type of the column of record i.
 pub fn type_at(cat: &[u8], i: usize) -> cell::Type
     requires { 8 + 8 * i + 8 ≤ length cat.now }
     ensures { result ≡ (column_at cat.now i).ty }
 {
-    cell::type_by(word::c_at(cat, i))
+    cell::type_by(word::record_at(cat, i).c)
 }
 
-// What record i says of a class: that of a column's cells, or of a table's rows.
+/// What record i says of a class: that of a column's cells, or of a table's rows.
 pub fn info_at(cat: &[u8], i: usize) -> class::Info
     requires { 8 + 8 * i + 8 ≤ length cat.now }
     ensures { result ≡ info_by (op_at cat.now i) (b_at cat.now i) }
 {
-    class::info_by(word::op_at(cat, i), word::b_at(cat, i))
+    let at = word::record_at(cat, i);
+    class::Info::by_op(at.op, at.b)
 }

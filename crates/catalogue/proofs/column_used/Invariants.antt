@@ -1,4 +1,4 @@
--- `catalogue::column_used` meets its contract. The loop goes back from record i: what is left of the records before it decides.
+-- `catalogue::column_used` meets its contract: what is left of the records before record i decides.
 -- Assumes nothing.
 use Prim.Native.Nat.{◌≤◌}
 use mathlib.Core.Path.{◌≡◌}
@@ -7,6 +7,3 @@ use Rattle.catalogue.proofs.column_used.Given as goal
 
 abbrev pub invariant-loop-j : goal.invariant-loop-j
 invariant-loop-j l = (l.j ≤ l.i) × (column_used l.cat l.name l.i ≡ column_used l.cat l.name l.j)
-
-abbrev pub decreases-loop-j : goal.decreases-loop-j
-decreases-loop-j l = l.j

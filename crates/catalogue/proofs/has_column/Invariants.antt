@@ -1,12 +1,9 @@
--- `catalogue::has_column` meets its contract. The loop goes forward: what is left of the records decides.
+-- `catalogue::has_column` meets its contract: what is left of the records decides.
 -- Assumes nothing.
-use Prim.Native.Nat.{◌-◌, ◌≤◌}
+use Prim.Native.Nat.{◌-◌}
 use mathlib.Core.Path.{◌≡◌}
 use Rattle.catalogue.specs.Fault.{has_column}
 use Rattle.catalogue.proofs.has_column.Given as goal
 
 abbrev pub invariant-loop-j : goal.invariant-loop-j
-invariant-loop-j l = (l.j ≤ l.n) × (has_column l.cat (l.n - l.i) l.i ≡ has_column l.cat (l.n - l.j) l.j)
-
-abbrev pub decreases-loop-j : goal.decreases-loop-j
-decreases-loop-j l = l.n - l.j
+invariant-loop-j l = has_column l.cat (l.n - l.i) l.i ≡ has_column l.cat (l.n - l.j) l.j

@@ -1,16 +1,15 @@
--- `catalogue::records` meets its contract. The loop goes forward: the counts are those before record i, and the lowest fault is that of what is left.
+-- `catalogue::records` meets its contract.
 -- Assumes nothing.
-use Rattle.catalogue.proofs.Laws.{lows}
+use native.Mathlib.Omega.{arith}
+use mathlib.Core.Path.{refl}
+use Rattle.word.specs.Record.{rec_at}
+use Rattle.catalogue.proofs.Laws.{lows, sees_begin, sees_more}
 use Rattle.catalogue.proofs.records.Goals as goal
 
 pub loop-i-init : goal.loop-i-init
-loop-i-init c = search lows
-
-pub returns-then-fault-ne0 : goal.returns-then-fault-ne0
-returns-then-fault-ne0 c = search lows
+loop-i-init c = (sees_begin c.args.cat.now, grind (arith, lows))
 
 pub loop-i-preserved : goal.loop-i-preserved
-loop-i-preserved c = (search lows, search lows, search lows, search lows, search lows, search lows, search lows, search lows)
-
-pub returns : goal.returns
-returns c = search lows
+unfolding rec_at
+loop-i-preserved c =
+    (sees_more c.args.cat.now c.loop-i.i c.record_at.result.kind c.record_at.result.a c.loop-i.seen c.after-seen.result (rw c.record_at.ensures refl) (rw c.record_at.ensures refl) c.loop-i.invariant.0 c.after-seen.ensures.tables c.after-seen.ensures.columns c.after-seen.ensures.highest c.after-seen.ensures.top, grind (arith, lows))

@@ -1,16 +1,17 @@
--- `catalogue::find_table` meets its contract. The loop goes over the tables: what is left of them decides.
+-- `catalogue::find_table` meets its contract.
 -- Assumes nothing.
-use Rattle.catalogue.proofs.Places.{finds}
+use Prim.Native.Nat.{ℕ}
+use mathlib.Core.Path.{◌≡◌}
+use borrow.Author.Rules.{rules}
+use borrow.Author.Tests.{tests}
+use lib.ListN.{get_or}
+use Rattle.std.proofs.lemmas.Iterator.{first_from_Range}
+use Rattle.word.specs.Record.{a_at}
+use Rattle.catalogue.proofs.Places.{find_first}
 use Rattle.catalogue.proofs.lookup.find_table.Goals as goal
 
-pub loop-j-init : goal.loop-j-init
-loop-j-init c = search finds
-
-pub returns-then-a-name : goal.returns-then-a-name
-returns-then-a-name c = search finds
-
-pub loop-j-preserved : goal.loop-j-preserved
-loop-j-preserved c = search finds
-
-pub returns : goal.returns
-returns c = search finds
+pub returns-clause-found : goal.returns-clause-found
+returns-clause-found c =
+    let has = λ (j : ℕ). a_at c.args.cat.now (get_or c.args.starts.now j 0) ≡ c.args.name in
+    find_first c.args.cat.now c.args.n c.args.name c.args.tables c.args.starts.now c.requires.starts_are c.find.result
+    (first_from_Range _ _ _ _ has (λ j. has j → ⊥) c.find.ensures.ran (λ x q k. search (rules, tests)) (λ x q k. search (rules, tests)))

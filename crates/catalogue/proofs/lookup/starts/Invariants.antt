@@ -7,7 +7,7 @@ use lib.ListN.{length}
 use Rattle.catalogue.proofs.lookup.starts.Given as goal
 
 abbrev pub invariant-loop-i : goal.invariant-loop-i
-invariant-loop-i l = (l.i ≤ l.n) × (l.t ≤ l.i) × (length l.slots ≡ 32) × Filled l.cat l.n l.slots l.t l.i
+invariant-loop-i l = (l.tables ≤ l.i) × (length l.slots ≡ 32) × Filled l.cat l.n l.slots l.tables l.i
 
 abbrev pub decreases-loop-i : goal.decreases-loop-i
 decreases-loop-i l = l.n - l.i
