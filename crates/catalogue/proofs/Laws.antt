@@ -1,21 +1,15 @@
 -- How each look-back, the look-forward and the lowest fault go by one record; and the check, by header, count and length.
 -- Assumes nothing.
-use Prim.Native.Nat.{ℕ, zero, suc, ◌+◌, ◌-◌, ◌*◌, ◌/◌, ◌%◌, ◌<◌, ◌≤◌}
-use mathlib.Core.Path.{◌≡◌, refl, sym, ◌∙◌}
-use mathlib.Core.Bool.{Bool, true, false, cond, ◌&&◌, and-false, and-eq-true_iff}
+use Prim.Native.Nat.{ℕ, zero, suc, ◌+◌, ◌-◌, ◌<◌, ◌≤◌}
+use mathlib.Core.Path.{◌≡◌, refl, ◌∙◌}
+use mathlib.Core.Bool.{Bool, true, false, cond, and-false}
 use mathlib.Core.List.{List}
 use native.Mathlib.Omega.{arith}
 use native.Mathlib.Numerals.{add-one}
-use borrow.Author.Rules.{rules}
-use borrow.Author.Tests.{leb-true, eq-eqb, ne_eqb}
-use lib.ListN.{length}
-use lib.Dec.{eqb, ltb, leb}
-use Rattle.word.specs.Bytes.{within}
-use Rattle.word.specs.Header.{drc, headed, count_at}
-use Rattle.word.specs.Record.{kind_at, op_at, a_at, c_at}
-use Rattle.word.proofs.Laws.{headed_long}
-use Rattle.cell.specs.Types.{type_rule}
-use Rattle.catalogue.specs.Fault.{named_rule, one_table, one_column, tables_before, columns_before, table_used, column_used, has_column, table_fault, column_fault, fault_at, lowest, check_of}
+use borrow.Author.Tests.{eq-eqb, ne_eqb}
+use lib.Dec.{eqb}
+use Rattle.word.specs.Record.{kind_at, a_at}
+use Rattle.catalogue.specs.Fault.{one_table, one_column, tables_before, columns_before, table_used, column_used, has_column, fault_at, lowest}
 use Rattle.catalogue.proofs.Rising.{tables_to_begin, columns_to_begin, table_unused, column_unused, tables_to_again, columns_to_again}
 use Rattle.word.specs.Refusal.{fine, refusal, number_of}
 use Rattle.catalogue.specs.declared.Seen.{Seen}
@@ -129,20 +123,20 @@ module _ (c : List ℕ) where
       go false false h = omega arith
 
   -- nothing is seen before the first record; and one record further
-  pub sees_begin : Sees c 0 (record { tables = 0; columns = 0; highest = 0; top = 0 })
+  pub sees_begin : Sees c 0 (record { tables = 0; columns = 0; highest_table = 0; highest_column = 0 })
   unfolding tables_before columns_before
   sees_begin = record { tables = refl; columns = refl; tables_to = tables_to_begin c; columns_to = columns_to_begin c }
 
   pub sees_more : (i kind name : ℕ) (s t : Seen) → kind ≡ kind_at c i → name ≡ a_at c i → Sees c i s
-      → t.tables ≡ one_table kind s.tables → t.columns ≡ one_column kind s.columns → t.highest ≡ table_top kind name s.highest → t.top ≡ column_top kind name s.top
+      → t.tables ≡ one_table kind s.tables → t.columns ≡ one_column kind s.columns → t.highest_table ≡ table_top kind name s.highest_table → t.highest_column ≡ column_top kind name s.highest_column
       → Sees c (i + 1) t
   unfolding tables_before columns_before
   sees_more i kind name s t e f h p q u v =
       record {
         tables = p ∙ rw (add-one i, e, h.tables);
         columns = q ∙ rw (add-one i, e, h.columns);
-        tables_to = tables_to_again c i kind name s.highest t.highest e f h.tables_to u;
-        columns_to = columns_to_again c i kind name s.top t.top e f h.columns_to v;
+        tables_to = tables_to_again c i kind name s.highest_table t.highest_table e f h.tables_to u;
+        columns_to = columns_to_again c i kind name s.highest_column t.highest_column e f h.columns_to v;
       }
 
 -- a reason's number isn't 0

@@ -17,7 +17,7 @@ use Rattle.word.specs.Record.{kind_at}
 use Rattle.catalogue.specs.Fault.{tables_before, fault_at, lowest, check_of}
 use Rattle.catalogue.specs.Tables.{table_at, tables_from, catalogue_of}
 use Rattle.catalogue.specs.Starts.{starts_from, starts_of, starts_array, StartsAre}
-use Rattle.word.specs.Refusal.{Checked, fine, refusal, said}
+use Rattle.word.specs.Refusal.{fine, refusal, said}
 use Rattle.word.specs.declared.refusal.Refusal.{Refusal}
 use Rattle.word.proofs.Writing.{length_put, put_start}
 use Rattle.catalogue.proofs.Faultless.{both, table_ok, column_ok, two_kinds}

@@ -9,7 +9,7 @@ use native.Mathlib.Numerals.{add-one}
 use borrow.Author.Rules.{rules}
 use borrow.Author.Tests.{eq-eqb, ne_eqb, eqb-true}
 use Rattle.std.specs.Prelude.{Option, Some, None, MatchOption}
-use lib.Dec.{eqb, ltb}
+use lib.Dec.{eqb}
 use lib.ListN.{length, get_or, set, drop, replicate, drop_of_length-le}
 use lib.Seq.{drop-cons, set_out, get_or-take, length-take-le}
 use Rattle.word.specs.Buffer.{Wrote}

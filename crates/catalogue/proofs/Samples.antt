@@ -12,7 +12,7 @@ use Rattle.cell.specs.Types.{type_by, type_rule, digits_rule}
 use Rattle.cell.specs.declared.Type.TheVariants as T
 use Rattle.catalogue.specs.Fault.{check_of, lowest, fault_by, table_fault, tables_before, has_column, table_used, column_fault, columns_before, column_used}
 use Rattle.catalogue.specs.Tables.{catalogue_of, tables_from, table_at, cols_from, column_at}
-use Rattle.word.specs.Refusal.{Checked, fine, refusal}
+use Rattle.word.specs.Refusal.{fine, refusal}
 
 -- a table of a name; a boolean column of a name; a column of a name and a type word
 abbrev table : ℕ → List ℕ

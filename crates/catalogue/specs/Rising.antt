@@ -15,8 +15,8 @@ pub record ColumnsTo (c : List ℕ) (i top : ℕ) : Type 0 where
 pub record Sees (c : List ℕ) (i : ℕ) (seen : Seen) : Type 0 where
   pub tables : seen.tables ≡ tables_before c i
   pub columns : seen.columns ≡ columns_before c i
-  pub tables_to : TablesTo c i seen.highest
-  pub columns_to : ColumnsTo c i seen.top
+  pub tables_to : TablesTo c i seen.highest_table
+  pub columns_to : ColumnsTo c i seen.highest_column
 
 -- the highest names, one record further
 abbrev pub table_top : ℕ → ℕ → ℕ → ℕ

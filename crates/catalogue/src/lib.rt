@@ -10,14 +10,13 @@ ghost use Rattle.catalogue.specs.Rising.{TablesTo, ColumnsTo, Sees, table_top, c
 mod lookup;
 
 pub use lookup::{find_table, info_at, start_at, starts, type_at};
-
 use word::{Reason, Record, Refusal};
 
-// Whether a name isn't 0 and op is 0 or 1.
-fn named_rule(at: Record) -> bool
-    ensures { result ≡ named_rule at.a at.op }
+// Whether a record's name isn't 0 and its op is 0 or 1.
+fn named_rule(this: Record) -> bool
+    ensures { result ≡ named_rule this.a this.op }
 {
-    1 <= at.a && at.op <= 1
+    1 <= this.a && this.op <= 1
 }
 
 // Whether a table record before record i has the name; top is the highest name of one.
@@ -31,8 +30,8 @@ fn table_used(cat: &[u8], i: usize, name: u16, top: u16) -> bool
         return false;
     }
     for j in (0..i).rev() {
-        let at = word::record_at(cat, j);
-        if at.kind == 1 && at.a == name {
+        let here = word::record_at(cat, j);
+        if here.kind == 1 && here.a == name {
             return true;
         }
     }
@@ -50,10 +49,10 @@ fn column_used(cat: &[u8], i: usize, name: u16, top: u16) -> bool
         return false;
     }
     for j in (0..i).rev() {
-        let at = word::record_at(cat, j);
-        match at.kind {
+        let here = word::record_at(cat, j);
+        match here.kind {
             1 => return false,
-            2 if at.a == name => return true,
+            2 if here.a == name => return true,
             _ => {}
         }
     }
@@ -82,8 +81,8 @@ fn has_column(cat: &[u8], n: usize, i: usize) -> bool
 struct Seen {
     tables: usize,
     columns: usize,
-    highest: u16,
-    top: u16,
+    highest_table: u16,
+    highest_column: u16,
 }
 
 impl Seen {
@@ -91,8 +90,8 @@ impl Seen {
     const NOTHING: Seen = Seen {
         tables: 0,
         columns: 0,
-        highest: 0,
-        top: 0,
+        highest_table: 0,
+        highest_column: 0,
     };
 
     // What is seen, one record further.
@@ -100,19 +99,19 @@ impl Seen {
         requires few { (self.tables < 65536) × (self.columns < 65536) }
         ensures tables { result.tables ≡ one_table next.kind self.tables }
         ensures columns { result.columns ≡ one_column next.kind self.columns }
-        ensures highest { result.highest ≡ table_top next.kind next.a self.highest }
-        ensures top { result.top ≡ column_top next.kind next.a self.top }
+        ensures highest_table { result.highest_table ≡ table_top next.kind next.a self.highest_table }
+        ensures highest_column { result.highest_column ≡ column_top next.kind next.a self.highest_column }
     {
         match next.kind {
             1 => Seen {
                 tables: self.tables + 1,
                 columns: 0,
-                highest: self.highest.max(next.a),
-                top: 0,
+                highest_table: self.highest_table.max(next.a),
+                highest_column: 0,
             },
             2 => Seen {
                 columns: self.columns + 1,
-                top: self.top.max(next.a),
+                highest_column: self.highest_column.max(next.a),
                 ..self
             },
             _ => self,
@@ -126,11 +125,11 @@ impl Seen {
         requires seen { Sees cat.now i self.now }
         ensures { fault_number result ≡ table_fault cat.now n i self.now.tables }
     {
-        let at = word::record_at(cat, i);
-        if !named_rule(at) || 32 <= self.tables || !has_column(cat, n, i + 1) {
+        let here = word::record_at(cat, i);
+        if !named_rule(here) || 32 <= self.tables || !has_column(cat, n, i + 1) {
             return Some(Reason::CatalogueRule);
         }
-        table_used(cat, i, at.a, self.highest).then_some(Reason::NameUsed)
+        table_used(cat, i, here.a, self.highest_table).then_some(Reason::NameUsed)
     }
 
     // The fault of record i, a column's.
@@ -140,11 +139,11 @@ impl Seen {
         requires seen { Sees cat.now i self.now }
         ensures { fault_number result ≡ column_fault cat.now i self.now.tables self.now.columns }
     {
-        let at = word::record_at(cat, i);
-        if !named_rule(at) || self.tables == 0 || 64 <= self.columns || !cell::type_rule(at.c) {
+        let here = word::record_at(cat, i);
+        if !named_rule(here) || self.tables == 0 || 64 <= self.columns || !cell::type_rule(here.c) {
             return Some(Reason::CatalogueRule);
         }
-        column_used(cat, i, at.a, self.top).then_some(Reason::NameUsed)
+        column_used(cat, i, here.a, self.highest_column).then_some(Reason::NameUsed)
     }
 
     // The fault of record i, by its kind.
@@ -193,7 +192,7 @@ pub fn check(cat: &[u8]) -> Result<usize, Refusal>
         });
     }
     let n = usize::from(word::u16_at(cat, 6));
-    if n < 1 || 2080 < n || cat.len() != 8 + 8 * n {
+    if !matches!(n, 1..=2080) || cat.len() != 8 + 8 * n {
         return Err(Refusal {
             reason: Reason::CatalogueLength,
             place: 0,

@@ -25,7 +25,6 @@ pub fn starts(cat: &[u8], n: usize) -> [u16; 32]
 }
 
 /// The record of table j.
-#[tactic(auto, using(crate::proofs::Places::start_below))]
 pub fn start_at(cat: &[u8], n: usize, starts: &[u16; 32], tables: usize, j: usize) -> usize
     requires starts_are { StartsAre cat.now n tables starts.now }
     requires j_lt_tables { j < tables }
@@ -35,7 +34,13 @@ pub fn start_at(cat: &[u8], n: usize, starts: &[u16; 32], tables: usize, j: usiz
 }
 
 /// The number among the tables of the one with a name, if there is one.
-pub fn find_table(cat: &[u8], n: usize, starts: &[u16; 32], tables: usize, name: u16) -> Option<usize>
+pub fn find_table(
+    cat: &[u8],
+    n: usize,
+    starts: &[u16; 32],
+    tables: usize,
+    name: u16,
+) -> Option<usize>
     requires n_in_bounds { 8 + 8 * n ≤ length cat.now }
     requires starts_are { StartsAre cat.now n tables starts.now }
     ensures found { table_named name (tables_from cat.now n n 0) ≡ ref_of cat.now n starts.now result }
@@ -45,6 +50,7 @@ pub fn find_table(cat: &[u8], n: usize, starts: &[u16; 32], tables: usize, name:
 }
 
 /// The type of the column of record i.
+#[tactic(auto, unfolding(crate::specs::Tables::column_at, word::specs::Record::rec_at))]
 pub fn type_at(cat: &[u8], i: usize) -> cell::Type
     requires { 8 + 8 * i + 8 ≤ length cat.now }
     ensures { result ≡ (column_at cat.now i).ty }
@@ -53,10 +59,11 @@ pub fn type_at(cat: &[u8], i: usize) -> cell::Type
 }
 
 /// What record i says of a class: that of a column's cells, or of a table's rows.
+#[tactic(auto, unfolding(word::specs::Record::rec_at))]
 pub fn info_at(cat: &[u8], i: usize) -> class::Info
     requires { 8 + 8 * i + 8 ≤ length cat.now }
     ensures { result ≡ info_by (op_at cat.now i) (b_at cat.now i) }
 {
-    let at = word::record_at(cat, i);
-    class::Info::by_op(at.op, at.b)
+    let here = word::record_at(cat, i);
+    class::Info::by_op(here.op, here.b)
 }

@@ -12,11 +12,10 @@ use Rattle.word.specs.Bytes.{u16_at}
 use Rattle.word.specs.Header.{drs, headed, count_at}
 use Rattle.word.specs.Record.{kind_at}
 use Rattle.catalogue.specs.Fault as fault
-use Rattle.catalogue.specs.declared.Verdict as catalogue
-use Rattle.catalogue.specs.declared.Verdict.TheVariants as variants
-use Rattle.store.specs.Layout.{row_size, place_after, place_of, end_from, fault_from, verdict_by, check_of, files_by, files_of}
-use Rattle.store.specs.declared.Verdict.{Verdict}
-use Rattle.store.specs.declared.Verdict.TheVariants.{Fine, Refused}
+use Rattle.word.specs.Refusal.{Checked, fine, refusal, and_then, said}
+use Rattle.word.specs.declared.refusal.Refusal.{Refusal}
+use Rattle.std.specs.Prelude.{Result, Ok}
+use Rattle.store.specs.Layout.{row_size, place_after, place_of, end_from, fault_from, verdict_by, check_of, files_of}
 
 module _ (c : List ℕ) (n : ℕ) (s : List ℕ) where
   pub after_more : (i at : ℕ) → at ≤ place_after c n s i at
@@ -71,11 +70,11 @@ pub record Accepted (c : List ℕ) (n t : ℕ) (s : List ℕ) : Type 0 where
   pub ends : end_from c n s n 0 8 ≡ length s
   pub no_fault : fault_from c n s n 0 8 ≡ 0
 
-pub accepted : (c : List ℕ) (n t : ℕ) (s : List ℕ) → check_of c n t s ≡ Fine → Accepted c n t s
+pub accepted : (c : List ℕ) (n t : ℕ) (s : List ℕ) → check_of c n t s ≡ fine tt → Accepted c n t s
 unfolding check_of verdict_by
 accepted c n t s e = go (headed drs s) ((leb (length s) 65528 && eqb (count_at s) t) && eqb (end_from c n s n 0 8) (length s)) (eqb (fault_from c n s n 0 8) 0) refl refl e
   where
-    go : (a b d : Bool) → ((leb (length s) 65528 && eqb (count_at s) t) && eqb (end_from c n s n 0 8) (length s)) ≡ b → eqb (fault_from c n s n 0 8) 0 ≡ d → cond a (cond b (cond d Fine (Refused 33 (fault_from c n s n 0 8))) (Refused 32 0)) (Refused 31 0) ≡ Fine → Accepted c n t s
+    go : (a b d : Bool) → ((leb (length s) 65528 && eqb (count_at s) t) && eqb (end_from c n s n 0 8) (length s)) ≡ b → eqb (fault_from c n s n 0 8) 0 ≡ d → cond a (cond b (cond d (fine (tt {0})) (refusal 33 (fault_from c n s n 0 8))) (refusal 32 0)) (refusal 31 0) ≡ fine tt → Accepted c n t s
     go false b d q p w = absurd (let h : ◌≡◌ {A = ℕ} 0 1 = cc in omega arith)
     go true false d q p w = absurd (let h : ◌≡◌ {A = ℕ} 0 1 = cc in omega arith)
     go true true false q p w = absurd (let h : ◌≡◌ {A = ℕ} 0 1 = cc in omega arith)
@@ -90,14 +89,14 @@ accepted c n t s e = go (headed drs s) ((leb (length s) 65528 && eqb (count_at s
         }
 
 -- both files accepted: the catalogue has so many tables, and the store is fine over them
-pub files_elim : (c s : List ℕ) {G : Type 0} → files_of c s ≡ Fine → ((t : ℕ) → fault.check_of c ≡ variants.Tables t → check_of c (count_at c) t s ≡ Fine → G) → G
-unfolding files_of files_by
+pub files_elim : (c s : List ℕ) {G : Type 0} → files_of c s ≡ fine tt → ((t : ℕ) → fault.check_of c ≡ fine t → check_of c (count_at c) t s ≡ fine tt → G) → G
+unfolding files_of
 files_elim c s {G} e k = go (fault.check_of c) refl e
   where
-    go : (v : catalogue.Verdict) → fault.check_of c ≡ v → files_by v c s ≡ Fine → G
-    go (variants.Tables t) f w = k t f w
-    go (variants.Refused number place) f w = absurd (let h : ◌≡◌ {A = ℕ} 0 1 = cc in omega arith)
+    go : (v : Checked ℕ) → fault.check_of c ≡ v → and_then v (λ t. check_of c (count_at c) t s) ≡ fine tt → G
+    go (fine t) f w = k t f w
+    go (refusal number place) f w = cc
 
 -- what an accepted store's end is, from the check's answer
-pub taken_end : (c : List ℕ) (n t : ℕ) (s : List ℕ) (v : Verdict) → v ≡ check_of c n t s → v ≡ Fine → end_from c n s n 0 8 ≤ 65528
-taken_end c n t s v e f = let a = accepted c n t s (sym e ∙ f) in omega (arith, a.ends, a.short_enough)
+pub taken_end : (c : List ℕ) (n t : ℕ) (s : List ℕ) (v : Result (Unit {0}) Refusal) → said v ≡ check_of c n t s → v ≡ Ok tt → end_from c n s n 0 8 ≤ 65528
+taken_end c n t s v e f = let a = accepted c n t s (sym e ∙ ap said f) in omega (arith, a.ends, a.short_enough)

@@ -21,13 +21,12 @@ use Rattle.cell.specs.Res.{done, nth}
 use Rattle.catalogue.specs.Fault as fault
 use Rattle.catalogue.specs.Starts.{starts_from, starts_of}
 use Rattle.catalogue.specs.Tables.{table_at, tables_from, catalogue_of}
-use Rattle.catalogue.specs.declared.Verdict.TheVariants as variants
 use Rattle.catalogue.proofs.Meaning as catalogue
 use Rattle.catalogue.proofs.Places.{starts_below, starts_kind}
 use Rattle.store.specs.Layout.{class_rule, cell_rule, cell_place, columns_from, row_size, row_fault, place_after, place_of, end_from, check_of}
 use Rattle.store.specs.Rows.{rows_from, table_rows, tables_rows, store_of}
 use Rattle.store.specs.Spans.{spans_over, spans_array, SpanAt}
-use Rattle.store.specs.declared.Verdict.TheVariants.{Fine}
+use Rattle.word.specs.Refusal.{fine}
 use Rattle.store.proofs.Meaning.{place_below, table_inside, accepted}
 use Rattle.store.proofs.Faultless.{table_clean, row_clean, class_clean, cell_clean}
 
@@ -186,7 +185,7 @@ module _ (c : List ℕ) (n : ℕ) (s : List ℕ) where
           inside = rw (a, b, d) (rw e at (table_inside c n s i l k));
         }
 
-module _ (c s : List ℕ) (t : ℕ) (e : fault.check_of c ≡ variants.Tables t) (f : check_of c (count_at c) t s ≡ Fine) (j : ℕ) (h : j < t) where
+module _ (c s : List ℕ) (t : ℕ) (e : fault.check_of c ≡ fine t) (f : check_of c (count_at c) t s ≡ fine tt) (j : ℕ) (h : j < t) where
   -- table j: what the array holds of it, what the catalogue says of it, and its rows
   pub span_at : SpanAt c (count_at c) s (get_or (starts_of c) j 0) j (spans_array c (count_at c) s)
   unfolding starts_of
@@ -221,7 +220,7 @@ module _ (c : List ℕ) (n : ℕ) (s : List ℕ) (i j : ℕ) (ss : List ℕ) (a 
 
 -- ---- the classes of a row and its cells keep their rules
 
-module _ (c s : List ℕ) (t : ℕ) (e : fault.check_of c ≡ variants.Tables t) (f : check_of c (count_at c) t s ≡ Fine) (j : ℕ) (h : j < t) (r : ℕ) (l : r < get_or (spans_array c (count_at c) s) (3 * j + 1) 0) where
+module _ (c s : List ℕ) (t : ℕ) (e : fault.check_of c ≡ fine t) (f : check_of c (count_at c) t s ≡ fine tt) (j : ℕ) (h : j < t) (r : ℕ) (l : r < get_or (spans_array c (count_at c) s) (3 * j + 1) 0) where
   row_of : row_fault c (count_at c) s (get_or (starts_of c) j 0) (get_or (spans_array c (count_at c) s) (3 * j) 0 + r * get_or (spans_array c (count_at c) s) (3 * j + 2) 0) ≡ 0
   row_of =
       let a = span_at c s t e f j h in

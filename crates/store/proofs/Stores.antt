@@ -22,12 +22,11 @@ use Rattle.cell.specs.declared.Type.TheVariants as T
 use Rattle.cell.specs.declared.Value.TheVariants.{Null}
 use Rattle.catalogue.specs.Fault as fault
 use Rattle.catalogue.specs.Tables.{column_at, cols_from, table_at, tables_from, catalogue_of}
-use Rattle.catalogue.specs.declared.Verdict.TheVariants as variants
 use Rattle.catalogue.proofs.Meaning as catalogue
 use Rattle.catalogue.proofs.Faultless.{column_ok}
 use Rattle.store.specs.Layout.{class_rule, magnitude, value_rule, cell_rule, cell_place, row_size, place_after, cells_fault, row_fault, rows_fault, table_fault, fault_from, check_of}
 use Rattle.store.specs.Rows.{All, All2, CellOk, RowOk, StoreOk, value_of, cell_at, cells_from, row_at, rows_from, table_rows, tables_rows, store_of}
-use Rattle.store.specs.declared.Verdict.TheVariants.{Fine}
+use Rattle.word.specs.Refusal.{fine}
 use Rattle.store.proofs.Meaning.{after_more, accepted}
 use Rattle.store.proofs.Faultless.{first_none, class_clean, place_some}
 
@@ -143,7 +142,7 @@ module _ (c : List ℕ) (n : ℕ) (s : List ℕ) where
       go ih false w = ih
 
 -- THE LAW: what an accepted store says over its catalogue
-pub store_ok : (c s : List ℕ) (t : ℕ) → fault.check_of c ≡ variants.Tables t → check_of c (count_at c) t s ≡ Fine → StoreOk (catalogue_of c) (store_of c s)
+pub store_ok : (c s : List ℕ) (t : ℕ) → fault.check_of c ≡ fine t → check_of c (count_at c) t s ≡ fine tt → StoreOk (catalogue_of c) (store_of c s)
 unfolding catalogue_of store_of
 store_ok c s t e f =
     let a = catalogue.accepted c t e in

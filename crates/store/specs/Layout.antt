@@ -4,12 +4,9 @@ use Rattle.std.specs.Prelude.{ℕ, zero, suc, ◌+◌, ◌-◌, ◌*◌, ◌/◌
 use Rattle.word.specs.Bytes.{u16_at, u32_at}
 use Rattle.word.specs.Header.{drs, headed, count_at}
 use Rattle.word.specs.Record.{kind_at, op_at, b_at, c_at}
+use Rattle.word.specs.Refusal.{Checked, fine, refusal, and_then}
 use Rattle.class.specs.Info.{info_by, info_test}
 use Rattle.catalogue.specs.Fault as fault
-use Rattle.catalogue.specs.declared.Verdict as catalogue
-use Rattle.catalogue.specs.declared.Verdict.TheVariants as variants
-use Rattle.store.specs.declared.Verdict.{Verdict}
-use Rattle.store.specs.declared.Verdict.TheVariants.{Fine, Refused}
 
 -- the class at a place keeps what record i says: a fixed class equals the catalogue's, a stored one is dominated by its bound
 unfoldable pub class_rule : List ℕ → ℕ → List ℕ → ℕ → Bool
@@ -88,19 +85,15 @@ fault_from c n s zero i at = 0
 fault_from c n s (suc k) i at = first (table_fault c n s i at) (fault_from c n s k (i + 1) (place_after c n s i at))
 
 -- THE CHECK of a store, over a catalogue of n records with so many tables
-unfoldable pub verdict_by : ℕ → Verdict
-verdict_by place = cond (eqb place 0) Fine (Refused 33 place)
+unfoldable pub verdict_by : ℕ → Checked (Unit {0})
+verdict_by place = cond (eqb place 0) (fine tt) (refusal 33 place)
 
-unfoldable pub check_of : List ℕ → ℕ → ℕ → List ℕ → Verdict
+unfoldable pub check_of : List ℕ → ℕ → ℕ → List ℕ → Checked (Unit {0})
 check_of c n tables s =
     cond (headed drs s)
-    (cond ((leb (length s) 65528 && eqb (count_at s) tables) && eqb (end_from c n s n 0 8) (length s)) (verdict_by (fault_from c n s n 0 8)) (Refused 32 0))
-    (Refused 31 0)
+    (cond ((leb (length s) 65528 && eqb (count_at s) tables) && eqb (end_from c n s n 0 8) (length s)) (verdict_by (fault_from c n s n 0 8)) (refusal 32 0))
+    (refusal 31 0)
 
 -- BOTH FILES: the catalogue's refusal, or the store's answer over its tables
-unfoldable pub files_by : catalogue.Verdict → List ℕ → List ℕ → Verdict
-files_by (variants.Tables tables) c s = check_of c (count_at c) tables s
-files_by (variants.Refused number place) c s = Refused number place
-
-unfoldable pub files_of : List ℕ → List ℕ → Verdict
-files_of c s = files_by (fault.check_of c) c s
+unfoldable pub files_of : List ℕ → List ℕ → Checked (Unit {0})
+files_of c s = and_then (fault.check_of c) (λ tables. check_of c (count_at c) tables s)

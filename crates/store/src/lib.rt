@@ -2,185 +2,94 @@
 // The definitions are in specs/: Layout has the check, Rows what a store says.
 #![tactic(auto)]
 
-ghost use Rattle.std.specs.Prelude.{◌≡◌, ◌+◌, ◌-◌, ◌*◌, ◌^◌, ◌≤◌, ◌<◌, get_or};
-ghost use Rattle.word.specs.Bytes.{u16_at, u32_at};
-ghost use Rattle.word.specs.Record.{kind_at, op_at, b_at, c_at};
-ghost use Rattle.class.specs.Info.{info_by};
-ghost use Rattle.store.specs.Layout.{class_rule, magnitude, value_rule, cell_rule, cell_place, columns_from, row_size, place_after, end_from, cells_fault, row_fault, rows_fault, table_fault, fault_from, check_of, files_of};
+ghost use Rattle.std.specs.Prelude.{◌≡◌, ◌+◌, ◌-◌, ◌*◌, ◌/◌, ◌%◌, ◌≤◌, ◌<◌, length, get_or};
+ghost use Rattle.word.specs.Bytes.{u16_at};
+ghost use Rattle.word.specs.Record.{rec_at};
+ghost use Rattle.word.specs.Refusal.{said};
+ghost use Rattle.store.specs.Layout.{class_rule, value_rule, cell_rule, cell_place, columns_from, row_size, place_after, place_of, end_from, cells_fault, row_fault, rows_fault, table_fault, fault_from, verdict_by, check_of, files_of};
 
 mod places;
 
 pub use places::{cell_bits, cell_class, cell_null, cell_value, row_class, spans};
-
-#[derive(Drop)]
-pub enum Verdict {
-    Fine,
-    Refused(u16, usize),
-}
-
-const TENS: [u64; 16] = [
-    1,
-    10,
-    100,
-    1000,
-    10000,
-    100000,
-    1000000,
-    10000000,
-    100000000,
-    1000000000,
-    10000000000,
-    100000000000,
-    1000000000000,
-    10000000000000,
-    100000000000000,
-    1000000000000000,
-];
-
-// A power of ten.
-fn ten(n: usize) -> u64
-    requires { n < 16 }
-    ensures { result ≡ 10 ^ n }
-{
-    TENS[n]
-}
-
-fn index(x: u16) -> usize
-    ensures { (result ≡ x) × (result < 65536) }
-{
-    x as usize
-}
-
-fn wide(x: u8) -> u16
-    ensures { (result ≡ x) × (result < 256) }
-{
-    x as u16
-}
-
-fn wider(x: u16) -> u64
-    ensures { (result ≡ x) × (result < 65536) }
-{
-    x as u64
-}
+use word::{Reason, Record, Refusal};
 
 // A byte; past the end it counts as 0.
-fn byte(b: &[u8], at: usize) -> u8
-    ensures { result ≡ get_or b.now at 0 }
+fn byte(bytes: &[u8], at: usize) -> u8
+    ensures { result ≡ get_or bytes.now at 0 }
 {
-    if at < b.len() { b[at] } else { 0 }
+    bytes.get(at).copied().unwrap_or(0)
 }
 
-// The 16 bits at a place.
-fn half(b: &[u8], at: usize) -> u16
+// The 16 bits at a place; a byte past the end counts as 0.
+fn half(bytes: &[u8], at: usize) -> u16
     requires { at < 4398046511104 }
-    ensures { result ≡ u16_at b.now at }
+    ensures { result ≡ u16_at bytes.now at }
 {
-    if at + 2 <= b.len() {
-        return word::u16_at(b, at);
+    u16::from_le_bytes([byte(bytes, at), byte(bytes, at + 1)])
+}
+
+// Record i of a catalogue; a byte past the end counts as 0.
+#[tactic(auto, unfolding(word::specs::Record::rec_at))]
+fn record(cat: &[u8], i: usize) -> Record
+    requires { i < 2080 }
+    ensures { result ≡ rec_at cat.now i }
+{
+    let at = 8 + 8 * i;
+    if at + 8 <= cat.len() {
+        return word::record_at(cat, i);
     }
-    let low = wide(byte(b, at));
-    let high = wide(byte(b, at + 1));
-    low + 256 * high
-}
-
-fn long(x: u32) -> u64
-    ensures { (result ≡ x) × (result < 4294967296) }
-{
-    x as u64
-}
-
-// The 32 bits at a place.
-fn whole(b: &[u8], at: usize) -> u64
-    requires { at + 2 < 4398046511104 }
-    ensures { (result ≡ u32_at b.now at) × (result < 4294967296) }
-{
-    if at + 4 <= b.len() {
-        return long(word::u32_at(b, at));
+    Record {
+        kind: byte(cat, at),
+        op: byte(cat, at + 1),
+        a: half(cat, at + 2),
+        b: half(cat, at + 4),
+        c: half(cat, at + 6),
     }
-    let low = wider(half(b, at));
-    let high = wider(half(b, at + 2));
-    low + 65536 * high
-}
-
-// The kind of record i.
-fn kind(cat: &[u8], i: usize) -> u8
-    requires { i < 2080 }
-    ensures { result ≡ kind_at cat.now i }
-{
-    byte(cat, 8 + 8 * i)
-}
-
-// The type word of column record i.
-fn type_word(cat: &[u8], i: usize) -> u16
-    requires { i < 2080 }
-    ensures { result ≡ c_at cat.now i }
-{
-    half(cat, 8 + 8 * i + 6)
-}
-
-// What record i says of the class of its rows or cells.
-fn info(cat: &[u8], i: usize) -> class::Info
-    requires { i < 2080 }
-    ensures { result ≡ info_by (op_at cat.now i) (b_at cat.now i) }
-{
-    let op = byte(cat, 8 + 8 * i + 1);
-    let b = half(cat, 8 + 8 * i + 4);
-    class::info_by(op, b)
 }
 
 // Whether the class at a place keeps what record i says.
+#[tactic(auto, unfolding(crate::specs::Layout::class_rule, word::specs::Record::rec_at))]
 fn class_rule(cat: &[u8], i: usize, store: &[u8], at: usize) -> bool
-    requires { (i < 2080) × (at < 4398046511104) }
+    requires { (i < 2080) × (at + 2 ≤ length store.now) }
     ensures { result ≡ class_rule cat.now i store.now at }
 {
-    let known = info(cat, i);
-    let class = half(store, at);
-    class::keeps(known, class)
+    let here = record(cat, i);
+    class::Info::by_op(here.op, here.b).admits(word::u16_at(store, at))
 }
 
-fn magnitude(v: u64) -> u64
-    requires { v < 4294967296 }
-    ensures { result ≡ magnitude v }
-{
-    if v < 2147483648 { v } else { 4294967296 - v }
-}
-
-fn value_rule(high: u16, low: u16, mark: u8, v: u64) -> bool
-    requires { (low < 256) × (v < 4294967296) }
-    ensures { result ≡ value_rule high low mark v }
+// Whether the bits of a value keep the rule of its type, which is given by its word, and of its null mark.
+#[tactic(auto, using(crate::proofs::Laws::values))]
+fn value_rule(ty: u16, mark: u8, bits: u32) -> bool
+    ensures { result ≡ value_rule (ty / 256) (ty % 256) mark bits }
 {
     if mark == 1 {
-        return v == 0;
+        return bits == 0;
     }
-    if high == 1 {
-        return v <= 1;
+    match cell::type_by(ty) {
+        cell::Type::Boolean => bits <= 1,
+        cell::Type::Fixed(digits, _) => {
+            u64::from(word::to_signed(bits).unsigned_abs()) < cell::power_of_ten(digits)
+        }
+        cell::Type::Class => bits <= 65535,
+        _ => true,
     }
-    if high == 2 {
-        let m = magnitude(v);
-        let limit = ten(index(low / 16));
-        return m < limit;
-    }
-    if high == 5 {
-        return v <= 65535;
-    }
-    true
 }
 
 // Whether the cell at a place keeps the rule of column record j.
+#[tactic(auto, unfolding(crate::specs::Layout::cell_rule, word::specs::Record::rec_at))]
 fn cell_rule(cat: &[u8], j: usize, store: &[u8], at: usize) -> bool
-    requires { (j < 2080) × (at + 8 < 4398046511104) }
+    requires { (j < 2080) × (at + 8 ≤ length store.now) }
     ensures { result ≡ cell_rule cat.now j store.now at }
 {
-    let mark = byte(store, at);
-    let zero = byte(store, at + 1);
-    let classes = class_rule(cat, j, store, at + 2);
-    let v = whole(store, at + 4);
-    let t = type_word(cat, j);
-    let values = value_rule(t / 256, t % 256, mark, v);
-    ((mark <= 1) & (zero == 0)) & (classes & values)
+    let mark = store[at];
+    mark <= 1
+        && store[at + 1] == 0
+        && class_rule(cat, j, store, at + 2)
+        && value_rule(record(cat, j).c, mark, word::u32_at(store, at + 4))
 }
 
-// Where the cell of column number j stands in the row at a place.
+/// Where the cell of column number j stands in the row at a place.
+#[tactic(auto, unfolding(crate::specs::Layout::cell_place))]
 pub fn cell_place(at: usize, j: usize) -> usize
     requires { at + 2 + 8 * j < 18446744073709551616 }
     ensures { result ≡ cell_place at j }
@@ -189,23 +98,21 @@ pub fn cell_place(at: usize, j: usize) -> usize
 }
 
 // How many columns stand from record i on.
+#[tactic(auto, using(crate::proofs::Laws::columns), unfolding(word::specs::Record::rec_at))]
 fn columns_from(cat: &[u8], n: usize, i: usize) -> usize
     requires { (n ≤ 2080) × (i ≤ n) }
     ensures { (result ≡ columns_from cat.now (n - i) i) × (result ≤ 2080) }
 {
-    let mut j = i;
-    let mut r: usize = 0;
-    while j < n {
-        if kind(cat, j) != 2 {
-            return r;
+    for k in i..n {
+        if record(cat, k).kind != 2 {
+            return k - i;
         }
-        j += 1;
-        r += 1;
     }
-    r
+    n - i
 }
 
-// The bytes of a row of table record i.
+/// The bytes of a row of table record i.
+#[tactic(auto, unfolding(crate::specs::Layout::row_size, crate::specs::Layout::cell_place))]
 pub fn row_size(cat: &[u8], n: usize, i: usize) -> usize
     requires { (n ≤ 2080) × (i < n) }
     ensures { (result ≡ row_size cat.now n i) × (result ≤ 16642) }
@@ -213,165 +120,138 @@ pub fn row_size(cat: &[u8], n: usize, i: usize) -> usize
     cell_place(0, columns_from(cat, n, i + 1))
 }
 
-fn all_rows(rows: usize, size: usize) -> usize
-    requires { (rows < 65536) × (size ≤ 16642) }
-    ensures { (result ≡ rows * size) × (result ≤ 1090650112) }
-{
-    rows * size
-}
-
 // The place behind record i's table.
+#[tactic(auto, using(crate::proofs::Laws::all_few), unfolding(crate::specs::Layout::place_after, word::specs::Record::rec_at))]
 fn place_after(cat: &[u8], n: usize, store: &[u8], i: usize, at: usize) -> usize
     requires { (n ≤ 2080) × (i < n) × (at ≤ 8 + 1090650114 * i) }
     ensures { (result ≡ place_after cat.now n store.now i at) × (result ≤ 8 + 1090650114 * (i + 1)) }
 {
-    if kind(cat, i) == 1 {
-        let rows = index(half(store, at));
-        let size = row_size(cat, n, i);
-        let all = all_rows(rows, size);
-        return at + 2 + all;
+    if record(cat, i).kind == 1 {
+        return at + 2 + usize::from(half(store, at)) * row_size(cat, n, i);
     }
     at
 }
 
+// The place behind the last table.
+#[tactic(auto, using(crate::proofs::Laws::ends))]
 fn store_end(cat: &[u8], n: usize, store: &[u8]) -> usize
     requires { n ≤ 2080 }
     ensures { result ≡ end_from cat.now n store.now n 0 8 }
 {
-    let mut i: usize = 0;
-    let mut at: usize = 8;
-    while i < n {
+    let mut at = 8;
+    for i in 0..n {
         at = place_after(cat, n, store, i, at);
-        i += 1;
     }
     at
 }
 
-// The first fault in the cells of the row at a place, whose columns stand from record i on.
-fn cells_fault(cat: &[u8], n: usize, store: &[u8], i: usize, at: usize) -> usize
-    requires { (n ≤ 2080) × (i ≤ n) × (at + 16650 < 4398046511104) }
-    ensures { result ≡ cells_fault cat.now store.now (n - i) i at 0 }
+// The refusal of a row class or a cell, at its first byte.
+fn broken(place: usize) -> Refusal
+    requires { place < 65536 }
+    ensures reason { result.reason ≡ Reason.StoreRule }
+    ensures place { result.place ≡ place }
 {
-    let mut k = i;
-    let mut j: usize = 0;
-    while k < n {
-        if kind(cat, k) != 2 {
-            return 0;
+    Refusal {
+        reason: Reason::StoreRule,
+        place: place as u16,
+    }
+}
+
+// The first fault in the cells of the row at a place, whose columns stand from record i on.
+#[tactic(auto, using(crate::proofs::Laws::cells), unfolding(word::specs::Record::rec_at))]
+fn check_cells(cat: &[u8], n: usize, store: &[u8], i: usize, at: usize) -> Result<(), Refusal>
+    requires n_bound { (n ≤ 2080) × (i ≤ n) }
+    requires inside { cell_place at (columns_from cat.now (n - i) i) ≤ length store.now }
+    requires short { length store.now ≤ 65528 }
+    ensures { said result ≡ verdict_by (cells_fault cat.now store.now (n - i) i at 0) }
+{
+    for k in i..n {
+        if record(cat, k).kind != 2 {
+            return Ok(());
         }
-        let place = cell_place(at, j);
-        if cell_rule(cat, k, store, place) {
-            k += 1;
-            j += 1;
-        } else {
-            return place;
+        let place = cell_place(at, k - i);
+        if !cell_rule(cat, k, store, place) {
+            return Err(broken(place));
         }
     }
-    0
+    Ok(())
 }
 
 // The first fault in the row at a place, of table record i.
-fn row_fault(cat: &[u8], n: usize, store: &[u8], i: usize, at: usize) -> usize
-    requires { (n ≤ 2080) × (i < n) × (at + 16650 < 4398046511104) }
-    ensures { result ≡ row_fault cat.now n store.now i at }
+#[tactic(auto, using(crate::proofs::Laws::rows))]
+fn check_row(cat: &[u8], n: usize, store: &[u8], i: usize, at: usize) -> Result<(), Refusal>
+    requires n_bound { (n ≤ 2080) × (i < n) × (0 < at) }
+    requires inside { at + row_size cat.now n i ≤ length store.now }
+    requires short { length store.now ≤ 65528 }
+    ensures { said result ≡ verdict_by (row_fault cat.now n store.now i at) }
 {
-    if class_rule(cat, i, store, at) {
-        cells_fault(cat, n, store, i + 1, at)
-    } else {
-        at
+    if !class_rule(cat, i, store, at) {
+        return Err(broken(at));
     }
+    check_cells(cat, n, store, i + 1, at)
 }
 
-fn rows_fault(
-    cat: &[u8],
-    n: usize,
-    store: &[u8],
-    i: usize,
-    rows: usize,
-    at: usize,
-    size: usize,
-) -> usize
-    requires { (n ≤ 2080) × (i < n) × (at + rows * size + 16650 < 4398046511104) }
-    ensures { result ≡ rows_fault cat.now n store.now i rows at size }
+// The first fault in the rows of table record i, whose row count stands at a place.
+#[tactic(auto, using(crate::proofs::Laws::rows))]
+fn check_rows(cat: &[u8], n: usize, store: &[u8], i: usize, at: usize) -> Result<(), Refusal>
+    requires n_bound { (n ≤ 2080) × (i < n) }
+    requires inside { at + 2 + u16_at store.now at * row_size cat.now n i ≤ length store.now }
+    requires short { length store.now ≤ 65528 }
+    ensures { said result ≡ verdict_by (rows_fault cat.now n store.now i (u16_at store.now at) (at + 2) (row_size cat.now n i)) }
 {
-    let mut left = rows;
-    let mut place = at;
-    while 0 < left {
-        let fault = row_fault(cat, n, store, i, place);
-        if fault != 0 {
-            return fault;
-        }
-        place += size;
-        left -= 1;
+    let rows = usize::from(word::u16_at(store, at));
+    let size = row_size(cat, n, i);
+    for r in 0..rows {
+        check_row(cat, n, store, i, at + 2 + r * size)?;
     }
-    0
+    Ok(())
 }
 
-fn table_fault(cat: &[u8], n: usize, store: &[u8], i: usize, at: usize) -> usize
-    requires { (n ≤ 2080) × (i < n) × (at ≤ 8 + 1090650114 * i) }
-    ensures { result ≡ table_fault cat.now n store.now i at }
+// The first fault in the tables of n records, all of which stand inside the store.
+#[tactic(auto, using(crate::proofs::Laws::faults), unfolding(crate::specs::Layout::table_fault, word::specs::Record::rec_at))]
+fn check_tables(cat: &[u8], n: usize, store: &[u8]) -> Result<(), Refusal>
+    requires n_bound { n ≤ 2080 }
+    requires ends { end_from cat.now n store.now n 0 8 ≡ length store.now }
+    requires short { length store.now ≤ 65528 }
+    ensures { said result ≡ verdict_by (fault_from cat.now n store.now n 0 8) }
 {
-    if kind(cat, i) == 1 {
-        let rows = index(half(store, at));
-        let size = row_size(cat, n, i);
-        return rows_fault(cat, n, store, i, rows, at + 2, size);
-    }
-    0
-}
-
-fn first_fault(cat: &[u8], n: usize, store: &[u8]) -> usize
-    requires { n ≤ 2080 }
-    ensures { result ≡ fault_from cat.now n store.now n 0 8 }
-{
-    let mut i: usize = 0;
-    let mut at: usize = 8;
-    while i < n {
-        let fault = table_fault(cat, n, store, i, at);
-        if fault != 0 {
-            return fault;
+    let mut at = 8;
+    for i in 0..n {
+        if record(cat, i).kind == 1 {
+            check_rows(cat, n, store, i, at)?;
         }
         at = place_after(cat, n, store, i, at);
-        i += 1;
     }
-    0
+    Ok(())
 }
 
-// The check of a store over a catalogue of n records with so many tables.
-pub fn check_over(cat: &[u8], n: usize, tables: usize, store: &[u8]) -> Verdict
+/// The check of a store over a catalogue of n records with so many tables: a refusal of a row class or a cell has its first byte.
+#[tactic(auto, using(word::proofs::Laws::headed_long), unfolding(crate::specs::Layout::check_of))]
+pub fn check_over(cat: &[u8], n: usize, tables: usize, store: &[u8]) -> Result<(), Refusal>
     requires { n ≤ 2080 }
-    ensures { result ≡ check_of cat.now n tables store.now }
+    ensures { said result ≡ check_of cat.now n tables store.now }
 {
-    if word::opens(store, b"DRS\0") {
-        let count = index(half(store, 6));
-        let len = store.len();
-        if (len <= 65528) & (count == tables) {
-            let end = store_end(cat, n, store);
-            if end == len {
-                let place = first_fault(cat, n, store);
-                if place == 0 {
-                    Verdict::Fine
-                } else {
-                    Verdict::Refused(33, place)
-                }
-            } else {
-                Verdict::Refused(32, 0)
-            }
-        } else {
-            Verdict::Refused(32, 0)
-        }
-    } else {
-        Verdict::Refused(31, 0)
+    if !word::opens(store, b"DRS\0") {
+        return Err(Refusal {
+            reason: Reason::StoreHeader,
+            place: 0,
+        });
     }
+    let count = usize::from(word::u16_at(store, 6));
+    if 65528 < store.len() || count != tables || store_end(cat, n, store) != store.len() {
+        return Err(Refusal {
+            reason: Reason::StoreLength,
+            place: 0,
+        });
+    }
+    check_tables(cat, n, store)
 }
 
-// The check of both files, for any bytes: first the catalogue, then the store over it.
-pub fn check(cat: &[u8], store: &[u8]) -> Verdict
-    ensures { result ≡ files_of cat.now store.now }
+/// The check of both files, for any bytes: first the catalogue, then the store over it.
+#[tactic(auto, using(crate::proofs::Laws::count_few), unfolding(crate::specs::Layout::files_of))]
+pub fn check(cat: &[u8], store: &[u8]) -> Result<(), Refusal>
+    ensures { said result ≡ files_of cat.now store.now }
 {
-    match catalogue::check(cat) {
-        catalogue::Verdict::Refused(number, place) => Verdict::Refused(number, place),
-        catalogue::Verdict::Tables(tables) => {
-            let n = index(half(cat, 6));
-            check_over(cat, n, tables, store)
-        }
-    }
+    let tables = catalogue::check(cat)?;
+    check_over(cat, usize::from(half(cat, 6)), tables, store)
 }

@@ -8,7 +8,7 @@ ghost use Rattle.store.specs.Layout.{place_of, end_from};
 ghost use Rattle.store.specs.Rows.{value_of, cell_at};
 ghost use Rattle.store.specs.Spans.{spans_over, spans_array};
 
-use crate::{half, kind, place_after, row_size};
+use crate::{half, place_after, record, row_size};
 
 // Record i, if it is a table's, puts its three numbers at the places of table j; past the last place they are left out.
 fn note(
@@ -24,7 +24,7 @@ fn note(
     requires slots_len { length slots.old ≡ 96 }
     ensures { Wrote slots.old (3 * j) (spans_over cat.now n store.now (starts_from cat.now 1 i)) slots.new (3 * result) }
 {
-    if kind(cat, i) != 1 {
+    if record(cat, i).kind != 1 {
         return j;
     }
     if j < 32 {

@@ -6,7 +6,4 @@ use Rattle.store.specs.Layout.{end_from}
 use Rattle.store.proofs.store_end.Given as goal
 
 abbrev pub invariant-loop-i : goal.invariant-loop-i
-invariant-loop-i l = (l.i ≤ l.n) × (l.at ≤ 8 + 1090650114 * l.i) × (end_from l.cat l.n l.store l.n 0 8 ≡ end_from l.cat l.n l.store (l.n - l.i) l.i l.at)
-
-abbrev pub decreases-loop-i : goal.decreases-loop-i
-decreases-loop-i l = l.n - l.i
+invariant-loop-i l = (l.at ≤ 8 + 1090650114 * l.i) × (end_from l.cat l.n l.store l.n 0 8 ≡ end_from l.cat l.n l.store (l.n - l.i) l.i l.at)
