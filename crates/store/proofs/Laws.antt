@@ -8,7 +8,7 @@ use native.Mathlib.Omega.{arith}
 use native.Mathlib.Nat.{mul-le-mul, mul-le-mul_right, suc-mul}
 use native.Mathlib.Numerals.{add-one}
 use borrow.Author.Tests.{ne_eqb, eqb-true, ltb-false}
-use lib.ListN.{length}
+use lib.ListN.{length, get_or, get_or-eq_default}
 use lib.Dec.{eqb, ltb, leb}
 use lib.IntN.{pos, negsuc, nat_abs}
 use Rattle.word.specs.Bytes.{u16_at, signed32}
@@ -22,6 +22,10 @@ use Rattle.cell.specs.declared.Type.{«Type» as Ty}
 use Rattle.cell.specs.declared.Type.TheVariants as T
 use Rattle.store.specs.Layout.{class_rule, magnitude, value_rule, cell_rule, cell_place, columns_from, row_size, place_after, place_of, end_from, first, cells_fault, row_fault, rows_fault, table_fault, fault_from, verdict_by}
 use Rattle.store.proofs.Meaning.{table_inside}
+
+-- a byte past the end counts as 0
+pub byte_past : (s : List ℕ) (i : ℕ) → length s ≤ i → 0 ≡ get_or s i 0
+byte_past s i h = sym (get_or-eq_default s 0 {n = i} h)
 
 -- ---- a value
 
