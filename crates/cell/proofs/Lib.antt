@@ -10,5 +10,3 @@ pub mod Applying
 pub mod Sound
 pub mod Signed
 pub mod Tens
-pub mod Deciding
-pub mod Outcomes

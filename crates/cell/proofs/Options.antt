@@ -1,6 +1,6 @@
 -- What an answer says of a rule: the code answers `Some` where the rule gives a result, `None` where it is stuck.
 -- Assumes nothing.
-use Rattle.std.proofs.Common.{◌≡◌, Option, Some, None}
+use Rattle.std.proofs.Common.{◌≡◌, Some, None}
 use Rattle.cell.specs.Res.{Res, stuck, done, option_of}
 
 pub some_is : {A : Type 0} {a : A} (r : Res A) → Some a ≡ option_of r → r ≡ done a

@@ -1,9 +1,9 @@
 -- The tests that the code makes of numbers: that one is in a range, that two are what is asked.
 -- Assumes nothing.
 use Prim.Native.Nat.{ℕ, ◌≤◌, ◌<◌}
-use mathlib.Core.Path.{◌≡◌, refl}
-use mathlib.Core.Bool.{Bool, true, false, ◌&&◌, ◌||◌, and-false, and-eq-true_iff, true≢false}
-use borrow.Author.Tests.{le-leb, lt-leb, leb-true, eqb-true}
+use mathlib.Core.Path.{◌≡◌}
+use mathlib.Core.Bool.{true, false, ◌&&◌, and-false, and-eq-true_iff}
+use borrow.Author.Tests.{le-leb, lt-leb, eqb-true}
 use lib.Dec.{eqb, leb}
 
 module _ (a b n : ℕ) where
@@ -19,11 +19,3 @@ module _ (a b n : ℕ) where
 -- two tests that hold together
 pub both_are : (i j k l : ℕ) → (eqb i k && eqb j l) ≡ true → (i ≡ k) × (j ≡ l)
 both_are i j k l e = let (a, b) = (and-eq-true_iff (eqb i k) (eqb j l)).0 e in (eqb-true i k a, eqb-true j l b)
-
-pub both_within : (i j k l : ℕ) → (leb i k && leb j l) ≡ true → (i ≤ k) × (j ≤ l)
-both_within i j k l e = let (a, b) = (and-eq-true_iff (leb i k) (leb j l)).0 e in (leb-true i k a, leb-true j l b)
-
--- neither of two tests holds
-pub neither : (a b : Bool) → (a || b) ≡ false → (a ≡ false) × (b ≡ false)
-neither true b e = absurd (true≢false e)
-neither false b e = (refl, e)

@@ -1,7 +1,6 @@
 -- Powers of ten.
 -- Assumes nothing.
 use Prim.Native.Nat.{ℕ, zero, suc, ◌^◌, ◌≤◌, ◌<◌}
-use mathlib.Core.Path.{◌≡◌}
 use native.Mathlib.Nat.{pow-suc, pow-le-pow_right, mul-le-mul}
 use native.Mathlib.Omega.{arith}
 use lib.IntN.{ℤ, pos, nat_abs, ◌*ℤ◌}
@@ -17,9 +16,5 @@ ten_le n h = let l : n ≤ 9 = omega arith in pow-le-pow_right {n = 10} (omega a
 -- a number of 32 bits times a power of ten
 pub scaled_bound : (m : ℤ) (k : ℕ) → nat_abs m ≤ 2 ^ 31 → k < 10 → nat_abs (m *ℤ pos (10 ^ k)) ≤ 2 ^ 61
 scaled_bound m k p h = omega (arith, abs_mul m (pos (10 ^ k)), mul-le-mul p (ten_le k h))
-
--- a number that isn't its least value is at least the next
-pub past : (k n : ℕ) → k ≤ n → (n ≡ k → ⊥) → suc k ≤ n
-past k n h e = omega arith
 
 pub ruleset tens = (ten_pos, ten_le, scaled_bound, abs_fits, fits_abs, product_bound)

@@ -1,13 +1,12 @@
 -- The catalogue's word of a type: what each of its high bytes says.
 -- Assumes nothing.
-use Prim.Native.Nat.{ℕ, ◌≤◌, ◌<◌, ◌+◌, ◌*◌, ◌/◌, ◌%◌}
+use Prim.Native.Nat.{ℕ, ◌<◌, ◌/◌, ◌%◌}
 use mathlib.Core.Path.{◌≡◌, refl}
 use mathlib.Core.Bool.{Bool, true, false, ◌||◌}
 use native.Mathlib.Omega.{arith}
 use borrow.Author.Tests.{le-leb, lt-leb, ne_eqb}
 use lib.Dec.{eqb}
-use Rattle.cell.specs.Types.{digits_rule, type_rule, type_by, word_of}
-use Rattle.cell.specs.declared.Type.{«Type» as Ty}
+use Rattle.cell.specs.Types.{digits_rule, type_rule, type_by}
 use Rattle.cell.specs.declared.Type.TheVariants.{Null, Boolean, Fixed, Time, Interval, Class}
 
 module _ (high low : ℕ) where
@@ -51,10 +50,6 @@ module _ (high low : ℕ) where
       or_no true = refl
       or_no false = refl
 
-  pub rule_format : 3 ≤ high → high ≤ 4 → type_rule high low ≡ true
-  unfolding type_rule
-  rule_format a b = rw (ne_eqb high 1 (λ e. omega arith), ne_eqb high 2 (λ e. omega arith), le-leb 3 high a, le-leb high 4 b)
-
   pub rule_class : high ≡ 5 → type_rule high low ≡ eqb low 0
   unfolding type_rule
   rule_class e = rw e
@@ -66,15 +61,3 @@ module _ (high low : ℕ) where
   pub rule_high : 5 < high → type_rule high low ≡ false
   unfolding type_rule
   rule_high a = rw (ne_eqb high 1 (λ e. omega arith), ne_eqb high 2 (λ e. omega arith), le-leb 3 high (omega arith), lt-leb high 4 (omega arith), ne_eqb high 5 (λ e. omega arith))
-
-pub word_fixed : (t : Ty) (p s x y : ℕ) → t ≡ Fixed p s → x ≡ p → y ≡ s → 512 + (16 * x + y) ≡ word_of t
-unfolding word_of
-word_fixed t p s x y e f g = rw (e, f, g)
-
-pub word_time : (t : Ty) (f x : ℕ) → t ≡ Time f → x ≡ f → 768 + x ≡ word_of t
-unfolding word_of
-word_time t f x e g = rw (e, g)
-
-pub word_interval : (t : Ty) (f x : ℕ) → t ≡ Interval f → x ≡ f → 1024 + x ≡ word_of t
-unfolding word_of
-word_interval t f x e g = rw (e, g)

@@ -2,7 +2,7 @@
 // The bounds that the private functions require keep every step within 64 bits.
 ghost use Rattle.std.specs.Prelude.{◌≡◌, ◌<◌, ◌≤◌, ◌-◌, ◌^◌, pos, nat_abs, ◌*ℤ◌};
 ghost use Rattle.std.specs.Int.Signed.{quot_z};
-ghost use Rattle.cell.specs.Apply.{cut_fixed, cut_interval, cut_time, equal_z, order_z, sum_z, up_to};
+ghost use Rattle.cell.specs.Apply.{cut_fixed, cut_interval, cut_time, order_z, sum_z, up_to};
 
 use crate::Value;
 
@@ -109,12 +109,6 @@ pub fn in_order(op: u8, a: i64, b: i64) -> bool
         11 => a >= b,
         _ => a > b,
     }
-}
-
-pub fn same(a: i64, b: i64) -> bool
-    ensures { result ≡ equal_z a b }
-{
-    a == b
 }
 
 /// m at scale s, or null where p digits don't hold it.

@@ -7,8 +7,7 @@ ghost use Rattle.cell.specs.Apply.{apply, as_cond, convert, cut_fixed, cut_inter
 ghost use Rattle.cell.specs.declared.Value.TheVariants.{Fixed};
 
 use crate::numbers::{
-    cut_fixed, cut_interval, cut_time, in_order, product_cut, raised, rescaled, same, scaled_cut,
-    total,
+    cut_fixed, cut_interval, cut_time, in_order, product_cut, raised, rescaled, scaled_cut, total,
 };
 use crate::{Outcome, Test, Value};
 
@@ -145,7 +144,7 @@ impl Value {
             return None;
         }
         let scale = s.max(r);
-        Some(same(raised(m, s, scale), raised(n, r, scale)))
+        Some(raised(m, s, scale) == raised(n, r, scale))
     }
 
     /// Whether two values are equal; null equals null and nothing else.
@@ -158,7 +157,7 @@ impl Value {
             (Value::Truth(a), Value::Truth(b)) => Some(a == b),
             (Value::Fixed(s, m), Value::Fixed(r, n)) => Value::equal_fixed(s, m, r, n),
             (Value::Time(m), Value::Time(n)) | (Value::Interval(m), Value::Interval(n)) => Some(
-                same(i64::from(m), i64::from(n)),
+                m == n,
             ),
             (Value::Class(a), Value::Class(b)) => Some(a == b),
             _ => None,

@@ -6,33 +6,35 @@ ghost use Rattle.cell.specs.Types.{binop_type, digits_of, digits_rule, equal_typ
 
 use crate::{Judged, Type};
 
-// Whether p digits at scale s are in rule.
+/// Whether so many digits at a scale are in rule.
+#[tactic(auto, unfolding(crate::specs::Types::digits_rule))]
 pub fn digits_rule(p: u8, s: u8) -> bool
     ensures { result ≡ digits_rule p s }
 {
-    ((1 <= p) & (p <= 9)) & ((s <= 4) & (s <= p))
+    (1..=9).contains(&p) && s <= 4 && s <= p
 }
 
-// Whether a word of the catalogue says a type.
+/// Whether a word of the catalogue says a type.
+#[tactic(auto, unfolding(crate::specs::Types::type_rule))]
 pub fn type_rule(word: u16) -> bool
     ensures { result ≡ type_rule (word / 256) (word % 256) }
 {
-    let low = (word % 256) as u8;
-    match word / 256 {
-        1 => low == 0,
+    let [low, high] = word.to_le_bytes();
+    match high {
+        1 | 5 => low == 0,
         2 => digits_rule(low / 16, low % 16),
-        3..=4 => true,
-        5 => low == 0,
+        3 | 4 => true,
         _ => false,
     }
 }
 
-// The type that a word of the catalogue says; Null where it says none.
+/// The type that a word of the catalogue says; Null where it says none.
+#[tactic(auto, unfolding(crate::specs::Types::type_by))]
 pub fn type_by(word: u16) -> Type
     ensures { result ≡ type_by (word / 256) (word % 256) }
 {
-    let low = (word % 256) as u8;
-    match word / 256 {
+    let [low, high] = word.to_le_bytes();
+    match high {
         1 => Type::Boolean,
         2 => Type::Fixed(low / 16, low % 16),
         3 => Type::Time(low),

@@ -1,6 +1,6 @@
 -- `cell::scaled` meets its contract: the product has at most 62 bits.
 -- Assumes nothing.
-use Rattle.std.proofs.Common.{arith, rules, ◌≡◌, ℤ, pos, ◌*ℤ◌, ◌^◌}
+use Rattle.std.proofs.Common.{arith, rules, pos, ◌*ℤ◌, ◌^◌}
 use mir.Syntax.{w64}
 use mir.Val.{SFits}
 use Rattle.cell.proofs.Signed.{fits_abs, abs_fits}
