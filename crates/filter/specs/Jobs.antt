@@ -2,15 +2,12 @@
 -- Order: catalogue, store (Answer only), view, 10, 41. Assumes nothing.
 use Rattle.std.specs.Prelude.{ℕ, ◌+◌, ◌*◌, ◌≡◌, cond, ◌&&◌, List, [], ◌++◌, length, drop, leb}
 use Rattle.word.specs.Header.{count_at}
+use Rattle.word.specs.Refusal.{Checked, fine, refusal, and_then}
 use Rattle.cell.specs.Res.{or_else}
 use Rattle.catalogue.specs.Tables.{Table, catalogue_of}
 use Rattle.catalogue.specs.Fault as fault
-use Rattle.catalogue.specs.declared.Verdict as catalogue
-use Rattle.catalogue.specs.declared.Verdict.TheVariants as catalogues
 use Rattle.store.specs.Rows.{store_of}
 use Rattle.store.specs.Layout as layout
-use Rattle.store.specs.declared.Verdict as store
-use Rattle.store.specs.declared.Verdict.TheVariants as stores
 use Rattle.view.specs.Ast.{Block, Parsed, ok, refused}
 use Rattle.view.specs.Parse.{parse_view}
 use Rattle.resolve.specs.Expr.{Select}
@@ -18,26 +15,6 @@ use Rattle.resolve.specs.Resolve as resolve
 use Rattle.tree.specs.Tree.{SelectTree, size_select, tree_file}
 use Rattle.tree.specs.Select.{translated}
 use Rattle.run.specs.Answer.{Shown, run_select, answer_file}
-use Rattle.filter.specs.declared.Result.{Result}
-
--- a check's end: what was found, or a refusal's number and place
-pub data Checked (A : Type 0) : Type 0 where
-  fine : A → Checked A
-  refusal : ℕ → ℕ → Checked A
-
-unfoldable pub and_then : {A B : Type 0} → Checked A → (A → Checked B) → Checked B
-and_then (fine a) f = f a
-and_then (refusal number place) f = refusal number place
-
--- catalogue: its number of tables
-unfoldable pub catalogue_by : catalogue.Verdict → Checked ℕ
-catalogue_by (catalogues.Tables t) = fine t
-catalogue_by (catalogues.Refused number place) = refusal number place
-
--- store, over an accepted catalogue
-unfoldable pub store_by : store.Verdict → Checked ℕ
-store_by stores.Fine = fine 0
-store_by (stores.Refused number place) = refusal number place
 
 -- view: its structure, then its names and types
 unfoldable pub resolved_by : resolve.Resolved → Checked Select
@@ -66,10 +43,10 @@ answer_of c s q t room = answer_fits room (or_else [] (run_select (store_of c s)
 unfoldable pub over : List ℕ → List ℕ → List ℕ
 over xs o = xs ++ drop (length xs) o
 
--- number, place, count
-unfoldable pub result_by : {A : Type 0} → (A → ℕ) → Checked A → Result
-result_by count (fine a) = record { number = 0; place = 0; count = count a }
-result_by count (refusal number place) = record { number = number; place = place; count = 0 }
+-- the count of what was found, or the refusal
+unfoldable pub result_by : {A : Type 0} → (A → ℕ) → Checked A → Checked ℕ
+result_by count (fine a) = fine (count a)
+result_by count (refusal number place) = refusal number place
 
 unfoldable pub held_by : {A : Type 0} → (A → List ℕ) → Checked A → List ℕ → List ℕ
 held_by file (fine a) o = over (file a) o
@@ -77,18 +54,18 @@ held_by file (refusal number place) o = o
 
 -- TRANSLATE: catalogue c, view v, class k of the constants, clearance q, a tree buffer of so many bytes
 unfoldable pub translate : List ℕ → List ℕ → ℕ → ℕ → ℕ → Checked SelectTree
-translate c v k q room = and_then (catalogue_by (fault.check_of c)) (λ t. tree_of c v k q room)
+translate c v k q room = and_then (fault.check_of c) (λ t. tree_of c v k q room)
 
 -- the result, and the tree buffer o afterwards
-pub record Translated (c v : List ℕ) (k q : ℕ) (o o' : List ℕ) (r : Result) : Type 0 where
+pub record Translated (c v : List ℕ) (k q : ℕ) (o o' : List ℕ) (r : Checked ℕ) : Type 0 where
   pub says : r ≡ result_by size_select (translate c v k q (length o))
   pub holds : o' ≡ held_by tree_file (translate c v k q (length o)) o
 
 -- ANSWER: the same with a store s. Up to the tree:
 unfoldable pub translate_over : List ℕ → List ℕ → ℕ → ℕ → List ℕ → ℕ → Checked SelectTree
 translate_over c v k q s room =
-    and_then (catalogue_by (fault.check_of c)) (λ t.
-    and_then (store_by (layout.check_of c (count_at c) t s)) (λ _.
+    and_then (fault.check_of c) (λ t.
+    and_then (layout.check_of c (count_at c) t s) (λ _.
     tree_of c v k q room))
 
 -- and then the answer, in a buffer of so many bytes
@@ -96,7 +73,7 @@ unfoldable pub answer : List ℕ → List ℕ → ℕ → ℕ → List ℕ → �
 answer c v k q s room space = and_then (translate_over c v k q s room) (λ t. answer_of c s q t space)
 
 -- the result, the tree buffer o and the answer buffer p afterwards; 41 alone leaves the tree in its buffer
-pub record Answered (c v : List ℕ) (k q : ℕ) (s o p o' p' : List ℕ) (r : Result) : Type 0 where
+pub record Answered (c v : List ℕ) (k q : ℕ) (s o p o' p' : List ℕ) (r : Checked ℕ) : Type 0 where
   pub says : r ≡ result_by length (answer c v k q s (length o) (length p))
   pub tree : o' ≡ held_by tree_file (translate_over c v k q s (length o)) o
   pub holds : p' ≡ held_by answer_file (answer c v k q s (length o) (length p)) p
