@@ -10,14 +10,13 @@ use lib.Dec.{leb}
 use lib.ListN.{length, drop}
 use Rattle.word.specs.Buffer.{put}
 use Rattle.word.specs.Header.{count_at}
+use Rattle.word.specs.Refusal.{Checked, fine, refusal, and_then}
 use Rattle.word.proofs.Writing.{put_start}
 use Rattle.cell.specs.Res.{or_else}
 use Rattle.catalogue.specs.Fault as fault
 use Rattle.catalogue.specs.Tables.{catalogue_of}
-use Rattle.catalogue.specs.declared.Verdict.TheVariants as catalogues
 use Rattle.store.specs.Layout as layout
 use Rattle.store.specs.Rows.{store_of}
-use Rattle.store.specs.declared.Verdict.TheVariants as stores
 use Rattle.view.proofs.Laws.{and_left, and_right}
 use Rattle.tree.specs.Tree.{SelectTree, size_select, tree_file}
 use Rattle.tree.specs.Select.{translated}
@@ -25,10 +24,9 @@ use Rattle.run.specs.Answer.{Shown, answer_file}
 use Rattle.reading.specs.Reading.{answer_by_reading}
 use Rattle.reading.specs.Demands.{Bytes, Accepted}
 use Rattle.reading.proofs.Main.{answer_by_reading_lem}
-use Rattle.filter.specs.Jobs.{Checked, fine, refusal, and_then, tree_of, over, result_by, held_by, answer_fits, answer_of}
+use Rattle.filter.specs.Jobs.{tree_of, over, result_by, held_by, answer_fits, answer_of}
 use Rattle.run.specs.Select as run
-use Rattle.filter.specs.Steps.{denied, taken, TreeGiven, BothGiven}
-use Rattle.filter.specs.declared.Result.{Result}
+use Rattle.filter.specs.Steps.{TreeGiven, BothGiven}
 use Rattle.filter.proofs.Trees.{TreeIs, tree_is}
 use Rattle.filter.proofs.Standing.{SelectSound, view_sound, select_fits, select_shallow, select_stands}
 
@@ -61,14 +59,14 @@ rows_taken p p' rs n e f z = go (leb (length rs) 65535 && leb (length (answer_fi
 
 -- ---- a tree that was given
 
-both_fine : (c s : List ℕ) (tables : ℕ) → fault.check_of c ≡ catalogues.Tables tables → layout.check_of c (count_at c) tables s ≡ stores.Fine → layout.files_of c s ≡ stores.Fine
-unfolding layout.files_of layout.files_by
+both_fine : (c s : List ℕ) (tables : ℕ) → fault.check_of c ≡ fine tables → layout.check_of c (count_at c) tables s ≡ fine tt → layout.files_of c s ≡ fine tt
+unfolding layout.files_of
 both_fine c s tables e f = rw e f
 
 -- the facts under which a tree that was given runs
 pub record Files (c v s : List ℕ) (tables k q : ℕ) : Type 0 where
-  pub catalogue_fine : fault.check_of c ≡ catalogues.Tables tables
-  pub store_fine : layout.check_of c (count_at c) tables s ≡ stores.Fine
+  pub catalogue_fine : fault.check_of c ≡ fine tables
+  pub store_fine : layout.check_of c (count_at c) tables s ≡ fine tt
   pub cat_bytes : Bytes c
   pub view_bytes : Bytes v
   pub store_bytes : Bytes s
@@ -104,66 +102,55 @@ module _ (c v s : List ℕ) (tables k q : ℕ) (files : Files c v s tables k q) 
         })
 
   -- the tree was given
-  given_fine : {A : Type 0} (o' : List ℕ) (r : Result) → TreeGiven (tree_of c v k q (length o)) o o' r → (r.count ≡ 0 → ⊥) →
-      ((t : SelectTree) → tree_of c v k q (length o) ≡ fine t → r.count ≡ size_select t → o' ≡ over (tree_file t) o → A) → A
+  given_fine : {A : Type 0} (o' : List ℕ) (n : ℕ) → TreeGiven (tree_of c v k q (length o)) o o' (fine n) →
+      ((t : SelectTree) → tree_of c v k q (length o) ≡ fine t → o' ≡ over (tree_file t) o → A) → A
   unfolding result_by held_by
-  given_fine {A} o' r h z f = go (tree_of c v k q (length o)) refl
+  given_fine {A} o' n h f = go (tree_of c v k q (length o)) refl
     where
       go : (x : Checked SelectTree) → tree_of c v k q (length o) ≡ x → A
-      go (fine t) e =
-          let a : r ≡ result_by size_select (fine t) = h.says ∙ ap (result_by size_select) e in
-          f t e (ap (λ (y : Result). y.count) a) (h.holds ∙ ap (λ (y : Checked SelectTree). held_by tree_file y o) e)
+      go (fine t) e = f t e (h.holds ∙ ap (λ (y : Checked SelectTree). held_by tree_file y o) e)
       go (refusal i p) e =
-          let a : r ≡ result_by size_select (refusal i p) = h.says ∙ ap (result_by size_select) e in
-          absurd (z (ap (λ (y : Result). y.count) a))
+          let a : fine n ≡ refusal i p = h.says ∙ ap (result_by size_select) e in
+          absurd (let z : ◌≡◌ {A = ℕ} 0 1 = cc in omega arith)
 
-  module _ (o' : List ℕ) (r : Result) (n : ℕ) (given : TreeGiven (tree_of c v k q (length o)) o o' r) (count_is : n ≡ r.count) (some : n ≡ 0 → ⊥) where
+  module _ (o' : List ℕ) (n : ℕ) (given : TreeGiven (tree_of c v k q (length o)) o o' (fine n)) where
     pub can_answer : run.AnswerReady o' c s q
     can_answer =
-        given_fine o' r given (λ e. some (count_is ∙ e)) λ t e a b.
+        given_fine o' n given λ t e b.
         let g = tree_is c v k q (length o) t e in
         record { tree = t; shown = answer_by_reading (catalogue_of c) k (store_of c s) q g.block; answers = tree_runs t g o' b }
 
-    module _ (p p' : List ℕ) (x : Result) (rows : ℕ) (answered : run.Answered o' c s q p p' rows) where
+    module _ (p p' : List ℕ) (rows : ℕ) (answered : run.Answered o' c s q p p' rows) where
       -- 41: the tree stays in its buffer
-      pub both_over : rows ≡ 65536 → x ≡ denied 41 0 → BothGiven c v k q s o p o' p' x
-      unfolding and_then answer_of or_else denied result_by held_by
-      both_over z f =
-          given_fine o' r given (λ e. some (count_is ∙ e)) λ t e a b.
+      pub both_over : rows ≡ 65536 → BothGiven c v k q s o p o' p' (refusal 41 0)
+      unfolding answer_of or_else result_by held_by
+      both_over z =
+          given_fine o' n given λ t e b.
           let g = tree_is c v k q (length o) t e in
           let runs = tree_runs t g o' b in
           let rs = answer_by_reading (catalogue_of c) k (store_of c s) q g.block in
           let (u, w) = answered.is t rs runs in
           let (h, l) = rows_over p p' rs rows u w z in
-          record { says = rw (e, runs.runs, h) f; tree = given.holds; holds = rw (e, runs.runs, h) l }
+          record { says = rw (e, runs.runs, h); tree = given.holds; holds = rw (e, runs.runs, h) l }
 
-      pub both_taken : (rows ≡ 65536 → ⊥) → x ≡ taken rows → BothGiven c v k q s o p o' p' x
-      unfolding and_then answer_of or_else taken result_by held_by
-      both_taken z f =
-          given_fine o' r given (λ e. some (count_is ∙ e)) λ t e a b.
+      pub both_taken : (rows ≡ 65536 → ⊥) → BothGiven c v k q s o p o' p' (fine rows)
+      unfolding answer_of or_else result_by held_by
+      both_taken z =
+          given_fine o' n given λ t e b.
           let g = tree_is c v k q (length o) t e in
           let runs = tree_runs t g o' b in
           let rs = answer_by_reading (catalogue_of c) k (store_of c s) q g.block in
           let (u, w) = answered.is t rs runs in
           let (h, l, m) = rows_taken p p' rs rows u w z in
-          record { says = rw (e, runs.runs, h) (f ∙ ap taken m); tree = given.holds; holds = rw (e, runs.runs, h) l }
-
--- a tree has a record at least
-no_size : (t : SelectTree) → size_select t ≡ 0 → ⊥
-unfolding size_select
-no_size t e = omega arith
+          record { says = rw (e, runs.runs, h) (ap fine m); tree = given.holds; holds = rw (e, runs.runs, h) l }
 
 -- no tree was given: the refusal stands, and the answer buffer is left
-pub both_refused : (c v : List ℕ) (k q : ℕ) (s o p o' : List ℕ) (r : Result) (n : ℕ) → TreeGiven (tree_of c v k q (length o)) o o' r → n ≡ r.count → n ≡ 0 →
-    BothGiven c v k q s o p o' p r
-unfolding result_by held_by and_then
-both_refused c v k q s o p o' r n h m z = go (tree_of c v k q (length o)) refl
+pub both_refused : (c v : List ℕ) (k q : ℕ) (s o p o' : List ℕ) {i j : ℕ} → TreeGiven (tree_of c v k q (length o)) o o' (refusal i j) → BothGiven c v k q s o p o' p (refusal i j)
+unfolding result_by held_by
+both_refused c v k q s o p o' {i} {j} h = go (tree_of c v k q (length o)) refl
   where
-    go : (x : Checked SelectTree) → tree_of c v k q (length o) ≡ x → BothGiven c v k q s o p o' p r
+    go : (x : Checked SelectTree) → tree_of c v k q (length o) ≡ x → BothGiven c v k q s o p o' p (refusal i j)
     go (fine t) e =
-        let a : r ≡ result_by size_select (fine t) = h.says ∙ ap (result_by size_select) e in
-        let b : r.count ≡ size_select t = ap (λ (y : Result). y.count) a in
-        absurd (no_size t (sym b ∙ sym m ∙ z))
-    go (refusal i j) e =
-        let a : r ≡ result_by size_select (refusal i j) = h.says ∙ ap (result_by size_select) e in
-        record { says = rw e a; tree = h.holds; holds = rw e }
+        let a : refusal i j ≡ fine (size_select t) = h.says ∙ ap (result_by size_select) e in
+        absurd (let z : ◌≡◌ {A = ℕ} 0 1 = cc in omega arith)
+    go (refusal a b) e = record { says = rw e (h.says ∙ ap (result_by size_select) e); tree = h.holds; holds = rw e }

@@ -7,19 +7,17 @@ use native.Mathlib.Omega.{arith}
 use lib.ListN.{length, length-append}
 use Rattle.word.specs.Buffer.{put}
 use Rattle.word.specs.Header.{count_at}
+use Rattle.word.specs.Refusal.{Checked, fine as given}
 use Rattle.word.proofs.Writing.{length_put}
 use Rattle.cell.specs.declared.Type.{«Type» as Ty}
 use Rattle.cell.specs.declared.Type.TheVariants as T
 use Rattle.catalogue.specs.Fault as fault
 use Rattle.catalogue.specs.Tables.{Table, tables_from, catalogue_of}
-use Rattle.catalogue.specs.declared.Verdict.TheVariants as catalogues
 use Rattle.catalogue.proofs.Listed.{catalogue_is}
 use Rattle.store.specs.Rows.{All}
 use Rattle.view.specs.Ast.{Exp, ok}
 use Rattle.view.specs.Parse as parse
 use Rattle.view.specs.Parse.{many, parse_value, parse_view}
-use Rattle.view.specs.declared.Verdict as view
-use Rattle.view.specs.declared.Verdict.TheVariants as views
 use Rattle.view.proofs.Read.{was_read, none_ok, more_ok}
 use Rattle.view.proofs.Whole.{Taken, taken}
 use Rattle.scope.specs.Scopes.{Open}
@@ -30,8 +28,6 @@ use Rattle.resolve.specs.Resolve.{goods, resolve_all, Resolved, select, refused,
 use Rattle.resolve.specs.Claims.{resolved_by, verdict_of}
 use Rattle.resolve.specs.Notes.{notes_of, notes_all, ends_of, NotedView, EndedView}
 use Rattle.resolve.specs.declared.Sums.{Sums}
-use Rattle.resolve.specs.declared.Verdict as names
-use Rattle.resolve.specs.declared.Verdict.TheVariants as namings
 use Rattle.resolve.proofs.Inversion.{all_good, view_good}
 use Rattle.resolve.proofs.Noted.{notes_length}
 use Rattle.tree.specs.Trans.{expr_class}
@@ -92,9 +88,9 @@ values_small k l (x ∷ xs) h =
 
 -- ---- THE VIEW, its notes and ends written over lists that are long enough
 
-module _ (c v : List ℕ) (tables k : ℕ) (fine : fault.check_of c ≡ catalogues.Tables tables) (cat_bytes : Bytes c) (view_bytes : Bytes v) (k_small : k < 65536)
+module _ (c v : List ℕ) (tables k : ℕ) (fine : fault.check_of c ≡ given tables) (cat_bytes : Bytes c) (view_bytes : Bytes v) (k_small : k < 65536)
     (o ws p es : List ℕ) (notes_long : 1024 ≤ length o) (ends_long : 33 ≤ length p) where
-  left_by : (w : Taken v) (R : Resolved) (u : Sums) → resolve_view (catalogue_of c) w.block ≡ R → verdict_of k R ≡ namings.Fine u → NotedView R o ws → EndedView k R p es →
+  left_by : (w : Taken v) (R : Resolved) (u : Sums) → resolve_view (catalogue_of c) w.block ≡ R → verdict_of k R ≡ given u → NotedView R o ws → EndedView k R p es →
       LeftAll k root ws es 0 ((select_in R).test ∷ (select_in R).values) (1 + length (select_in R).from)
   unfolding NotedView EndedView verdict_of select_in
   left_by w (select s ts) u e f n d =
@@ -111,10 +107,10 @@ module _ (c v : List ℕ) (tables k : ℕ) (fine : fault.check_of c ≡ catalogu
       (rw (d, ← i) (notes_put p 0 (ends_of k root at xs) (omega (arith, h.ends))))
   left_by w (refused i j) u e f n d = absurd (let z : ◌≡◌ {A = ℕ} 0 1 = cc in omega arith)
 
-  pub left_view : (n : ℕ) {r : view.Verdict} {m : ℕ} {w : names.Verdict} {u : Sums} → n ≡ count_at c → r ≡ parse.check_of v → r ≡ views.Records m →
-      w ≡ verdict_of k (resolved_by (tables_from c n n 0) (parse_view v)) → w ≡ namings.Fine u → NotedView (resolved_by (tables_from c n n 0) (parse_view v)) o ws →
+  pub left_view : (n : ℕ) {m : ℕ} {u : Sums} → n ≡ count_at c → given m ≡ parse.check_of v →
+      given u ≡ verdict_of k (resolved_by (tables_from c n n 0) (parse_view v)) → NotedView (resolved_by (tables_from c n n 0) (parse_view v)) o ws →
       EndedView k (resolved_by (tables_from c n n 0) (parse_view v)) p es → LeftView c v (record { nc = n; tables = tables; n = m; k = k }) ws es
   unfolding LeftView select_at resolved_by
-  left_view n {r} {m} {w} {u} a e f g h b d =
-      let t = taken v e f in
-      left_by t (resolved_by (tables_from c n n 0) (parse_view v)) u (sym (ap (λ (cat : List Table). resolved_by cat (parse_view v)) (catalogue_is c n a) ∙ ap (resolved_by (catalogue_of c)) t.whole)) (sym g ∙ h) b d
+  left_view n {m} {u} a e g b d =
+      let t = taken v e refl in
+      left_by t (resolved_by (tables_from c n n 0) (parse_view v)) u (sym (ap (λ (cat : List Table). resolved_by cat (parse_view v)) (catalogue_is c n a) ∙ ap (resolved_by (catalogue_of c)) t.whole)) (sym g) b d

@@ -8,18 +8,17 @@ use native.Mathlib.Omega.{arith}
 use lib.Dec.{eqb, ltb, leb}
 use lib.ListN.{length}
 use Rattle.word.specs.Bytes.{within}
+use Rattle.word.specs.Refusal.{Checked, fine, refusal}
+use Rattle.word.specs.Refusal as checked
 use Rattle.word.specs.Header.{drc, drq, drs, headed, count_at}
 use Rattle.cell.specs.Res.{Res, stuck, done, or_else}
 use Rattle.cell.specs.Types.{kind_of, binop_type, limb_type}
 use Rattle.cell.specs.declared.Type.{«Type» as Ty}
 use Rattle.catalogue.specs.Fault as fault
 use Rattle.catalogue.specs.Tables.{Table, TabRef, catalogue_of}
-use Rattle.catalogue.specs.declared.Verdict as catalogue
-use Rattle.catalogue.specs.declared.Verdict.TheVariants as catalogues
 use Rattle.catalogue.proofs.Meaning.{lowest_refused}
 use Rattle.store.specs.Layout as layout
 use Rattle.store.specs.Rows.{store_of}
-use Rattle.store.specs.declared.Verdict.TheVariants as stores
 use Rattle.view.specs.Ast.{TabName, Exp, Block, first_of, Parsed, ok, refused, and_then}
 use Rattle.view.specs.Ast as ast
 use Rattle.view.specs.Record.{node_at, slot_of}
@@ -35,8 +34,7 @@ use Rattle.resolve.specs.Resolve.{Out, good, bad, then, col_out, class_out, on_t
 use Rattle.tree.specs.Tree.{SelectTree, size_select}
 use Rattle.tree.specs.Select.{translated}
 use Rattle.run.specs.Answer.{Shown, run_select, answer_file}
-use Rattle.filter.specs.Jobs as jobs
-use Rattle.filter.specs.Jobs.{Checked, fine, refusal, catalogue_by, store_by, resolved_by, view_by, tree_fits, tree_of, answer_fits, answer_of, translate, translate_over, answer}
+use Rattle.filter.specs.Jobs.{resolved_by, view_by, tree_fits, tree_of, answer_fits, answer_of, translate, translate_over, answer}
 
 abbrev Some : ℕ → Type 0
 Some n = n ≡ 0 → ⊥
@@ -246,8 +244,7 @@ abbrev pub Numbered : {A : Type 0} → Checked A → Type 0
 Numbered (fine a) = Unit {0}
 Numbered (refusal number place) = number ≡ 0 → ⊥
 
-numbered_then : {A B : Type 0} (x : Checked A) (f : A → Checked B) → Numbered x → ((a : A) → Numbered (f a)) → Numbered (jobs.and_then x f)
-unfolding jobs.and_then
+numbered_then : {A B : Type 0} (x : Checked A) (f : A → Checked B) → Numbered x → ((a : A) → Numbered (f a)) → Numbered (checked.and_then x f)
 numbered_then (fine a) f h g = g a
 numbered_then (refusal number place) f h g = h
 
@@ -265,26 +262,25 @@ unfolding view_by
 by_view cat (ok b next) h = by_names (resolve_view cat b) (named_view cat b)
 by_view cat (refused number place) h = h
 
-by_lowest : (c : List ℕ) (n : ℕ) (r : catalogue.Verdict) → fault.lowest c n n 0 ≡ r → Numbered (catalogue_by r)
-unfolding catalogue_by
-by_lowest c n (catalogues.Tables t) e = tt
-by_lowest c n (catalogues.Refused f p) e = (lowest_refused c n n 0 f p e).some_fault
+by_lowest : (c : List ℕ) (n : ℕ) (r : Checked ℕ) → fault.lowest c n n 0 ≡ r → Numbered r
+by_lowest c n (fine t) e = tt
+by_lowest c n (refusal f p) e = (lowest_refused c n n 0 f p e).some_fault
 
-by_catalogue : (c : List ℕ) → Numbered (catalogue_by (fault.check_of c))
-unfolding fault.check_of catalogue_by
+by_catalogue : (c : List ℕ) → Numbered (fault.check_of c)
+unfolding fault.check_of
 by_catalogue c = go (headed drc c) (within 1 2080 (count_at c) && eqb (length c) (8 + 8 * count_at c))
   where
-    go : (a b : Bool) → Numbered (catalogue_by (cond a (cond b (fault.lowest c (count_at c) (count_at c) 0) (catalogues.Refused 22 0)) (catalogues.Refused 21 0)))
+    go : (a b : Bool) → Numbered (cond a (cond b (fault.lowest c (count_at c) (count_at c) 0) (refusal 22 0)) (refusal 21 0))
     go true true = by_lowest c (count_at c) (fault.lowest c (count_at c) (count_at c) 0) refl
     go true false = some 21
     go false b = some 20
 
-by_store : (c : List ℕ) (n t : ℕ) (s : List ℕ) → Numbered (store_by (layout.check_of c n t s))
-unfolding layout.check_of layout.verdict_by store_by
+by_store : (c : List ℕ) (n t : ℕ) (s : List ℕ) → Numbered (layout.check_of c n t s)
+unfolding layout.check_of layout.verdict_by
 by_store c n t s =
     go (headed drs s) ((leb (length s) 65528 && eqb (count_at s) t) && eqb (layout.end_from c n s n 0 8) (length s)) (eqb (layout.fault_from c n s n 0 8) 0)
   where
-    go : (a b d : Bool) → Numbered (store_by (cond a (cond b (cond d stores.Fine (stores.Refused 33 (layout.fault_from c n s n 0 8))) (stores.Refused 32 0)) (stores.Refused 31 0)))
+    go : (a b d : Bool) → Numbered (cond a (cond b (cond d (fine tt) (refusal 33 (layout.fault_from c n s n 0 8))) (refusal 32 0)) (refusal 31 0))
     go true true true = tt
     go true true false = some 32
     go true false d = some 31
@@ -308,13 +304,13 @@ module _ (c v : List ℕ) (k q : ℕ) (room : ℕ) where
   -- TRANSLATE
   pub translate_numbered : Numbered (translate c v k q room)
   unfolding translate
-  translate_numbered = numbered_then (catalogue_by (fault.check_of c)) _ (by_catalogue c) (λ t. by_tree)
+  translate_numbered = numbered_then (fault.check_of c) _ (by_catalogue c) (λ t. by_tree)
 
   -- ANSWER
   pub answer_numbered : (s : List ℕ) (space : ℕ) → Numbered (answer c v k q s room space)
   unfolding answer translate_over answer_of
   answer_numbered s space =
       numbered_then (translate_over c v k q s room) _
-      (numbered_then (catalogue_by (fault.check_of c)) _ (by_catalogue c) (λ t.
-      numbered_then (store_by (layout.check_of c (count_at c) t s)) _ (by_store c (count_at c) t s) (λ _. by_tree)))
+      (numbered_then (fault.check_of c) _ (by_catalogue c) (λ t.
+      numbered_then (layout.check_of c (count_at c) t s) _ (by_store c (count_at c) t s) (λ _. by_tree)))
       (λ t. by_rows space (or_else [] (run_select (store_of c s) q t)))

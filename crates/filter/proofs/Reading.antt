@@ -1,4 +1,4 @@
--- What Answer's own result says where it is 0: the answer buffer begins with the answer of the plain reading, and the tree in its buffer keeps the promises.
+-- What Answer's own result says where it is no refusal: the answer buffer begins with the answer of the plain reading, and the tree in its buffer keeps the promises.
 -- Assumes nothing.
 use Prim.Native.Nat.{ℕ}
 use mathlib.Core.Path.{◌≡◌, refl, sym, ap, ◌∙◌}
@@ -8,16 +8,13 @@ use native.Mathlib.Omega.{arith}
 use lib.Dec.{leb}
 use lib.ListN.{length}
 use Rattle.word.specs.Header.{count_at}
+use Rattle.word.specs.Refusal.{Checked, fine, refusal, and_then}
 use Rattle.cell.specs.Res.{or_else}
 use Rattle.cell.specs.declared.Type.{«Type» as Ty}
 use Rattle.catalogue.specs.Fault as fault
 use Rattle.catalogue.specs.Tables.{catalogue_of}
-use Rattle.catalogue.specs.declared.Verdict as catalogue
-use Rattle.catalogue.specs.declared.Verdict.TheVariants as catalogues
 use Rattle.store.specs.Layout as layout
 use Rattle.store.specs.Rows.{store_of}
-use Rattle.store.specs.declared.Verdict as store
-use Rattle.store.specs.declared.Verdict.TheVariants as stores
 use Rattle.view.specs.Ast.{Block}
 use Rattle.resolve.specs.Expr.{Select}
 use Rattle.tree.specs.Tree.{SelectTree, tree_file}
@@ -26,13 +23,11 @@ use Rattle.run.specs.Answer.{Shown, answer_file}
 use Rattle.reading.specs.Reading.{answer_by_reading}
 use Rattle.reading.specs.Demands.{Bytes, Accepted, Promise}
 use Rattle.reading.proofs.Main.{promise, answer_by_reading_lem}
-use Rattle.filter.specs.Jobs.{Checked, fine, refusal, and_then, catalogue_by, store_by, tree_of, over, result_by, held_by, translate_over, answer_fits, answer_of, answer, Answered}
-use Rattle.filter.specs.declared.Result.{Result}
+use Rattle.filter.specs.Jobs.{tree_of, over, result_by, held_by, translate_over, answer_fits, answer_of, answer, Answered}
 use Rattle.filter.proofs.Trees.{tree_is}
-use Rattle.filter.proofs.Numbers.{Numbered, answer_numbered}
 
 -- the files are accepted; the tree buffer o begins with the view's tree, the answer buffer p with the answer of the plain reading; the tree keeps what is promised
-pub record AnswerReads (c v : List ℕ) (k q : ℕ) (s o p o' p' : List ℕ) (r : Result) : Type 0 where
+pub record AnswerReads (c v : List ℕ) (k q : ℕ) (s o p o' p' : List ℕ) (r : Checked ℕ) : Type 0 where
   pub tables : ℕ
   pub block : Block
   pub records : ℕ
@@ -41,29 +36,27 @@ pub record AnswerReads (c v : List ℕ) (k q : ℕ) (s o p o' p' : List ℕ) (r 
   pub files : Accepted c v s tables block records sel tys
   pub tree_is : o' ≡ over (tree_file (translated k q sel)) o
   pub answer_is : p' ≡ over (answer_file (answer_by_reading (catalogue_of c) k (store_of c s) q block)) p
-  pub count_is : r.count ≡ length (answer_by_reading (catalogue_of c) k (store_of c s) q block)
+  pub count_is : r ≡ fine (length (answer_by_reading (catalogue_of c) k (store_of c s) q block))
   pub promised : Promise (catalogue_of c) (store_of c s) block sel tys k q
 
 -- ---- what an acceptance went through
 
 record Over (c v : List ℕ) (k q : ℕ) (s : List ℕ) (room : ℕ) (t : SelectTree) : Type 0 where
   tables : ℕ
-  catalogue_fine : fault.check_of c ≡ catalogues.Tables tables
-  store_fine : layout.check_of c (count_at c) tables s ≡ stores.Fine
+  catalogue_fine : fault.check_of c ≡ fine tables
+  store_fine : layout.check_of c (count_at c) tables s ≡ fine tt
   tree : tree_of c v k q room ≡ fine t
 
 module _ (c v : List ℕ) (k q : ℕ) (s : List ℕ) (room : ℕ) where
-  over_store : (t : ℕ) (x : store.Verdict) (u : SelectTree) → fault.check_of c ≡ catalogues.Tables t → layout.check_of c (count_at c) t s ≡ x →
-      and_then (store_by x) (λ _. tree_of c v k q room) ≡ fine u → Over c v k q s room u
-  unfolding and_then store_by
-  over_store t stores.Fine u e f g = record { tables = t; catalogue_fine = e; store_fine = f; tree = g }
-  over_store t (stores.Refused i p) u e f g = absurd (let z : ◌≡◌ {A = ℕ} 0 1 = cc in omega arith)
+  over_store : (t : ℕ) (x : Checked (Unit {0})) (u : SelectTree) → fault.check_of c ≡ fine t → layout.check_of c (count_at c) t s ≡ x →
+      and_then x (λ _. tree_of c v k q room) ≡ fine u → Over c v k q s room u
+  over_store t (fine tt) u e f g = record { tables = t; catalogue_fine = e; store_fine = f; tree = g }
+  over_store t (refusal i p) u e f g = absurd (let z : ◌≡◌ {A = ℕ} 0 1 = cc in omega arith)
 
-  over_catalogue : (x : catalogue.Verdict) (u : SelectTree) → fault.check_of c ≡ x →
-      and_then (catalogue_by x) (λ t. and_then (store_by (layout.check_of c (count_at c) t s)) (λ _. tree_of c v k q room)) ≡ fine u → Over c v k q s room u
-  unfolding and_then catalogue_by
-  over_catalogue (catalogues.Tables t) u e g = over_store t (layout.check_of c (count_at c) t s) u e refl g
-  over_catalogue (catalogues.Refused i p) u e g = absurd (let z : ◌≡◌ {A = ℕ} 0 1 = cc in omega arith)
+  over_catalogue : (x : Checked ℕ) (u : SelectTree) → fault.check_of c ≡ x →
+      and_then x (λ t. and_then (layout.check_of c (count_at c) t s) (λ _. tree_of c v k q room)) ≡ fine u → Over c v k q s room u
+  over_catalogue (fine t) u e g = over_store t (layout.check_of c (count_at c) t s) u e refl g
+  over_catalogue (refusal i p) u e g = absurd (let z : ◌≡◌ {A = ℕ} 0 1 = cc in omega arith)
 
   over_is : (u : SelectTree) → translate_over c v k q s room ≡ fine u → Over c v k q s room u
   unfolding translate_over
@@ -72,7 +65,6 @@ module _ (c v : List ℕ) (k q : ℕ) (s : List ℕ) (room : ℕ) where
   -- an answer went through a tree
   answer_tree : {A : Type 0} (space : ℕ) (rs : List (List Shown)) (x : Checked SelectTree) → translate_over c v k q s room ≡ x → and_then x (λ t. answer_of c s q t space) ≡ fine rs →
       ((u : SelectTree) → translate_over c v k q s room ≡ fine u → answer_of c s q u space ≡ fine rs → A) → A
-  unfolding and_then
   answer_tree space rs (fine u) e f g = g u e f
   answer_tree space rs (refusal i p) e f g = absurd (let z : ◌≡◌ {A = ℕ} 0 1 = cc in omega arith)
 
@@ -84,7 +76,7 @@ fits_same space xs rs e = go (leb (length xs) 65535 && leb (length (answer_file 
     go true e = cc
     go false e = absurd (let z : ◌≡◌ {A = ℕ} 0 1 = cc in omega arith)
 
-module _ (c v : List ℕ) (k q : ℕ) (s o p o' p' : List ℕ) (r : Result) (view_bytes : Bytes v) (store_bytes : Bytes s) (met : Answered c v k q s o p o' p' r) where
+module _ (c v : List ℕ) (k q : ℕ) (s o p o' p' : List ℕ) (r : Checked ℕ) (view_bytes : Bytes v) (store_bytes : Bytes s) (met : Answered c v k q s o p o' p' r) where
   from_tree : (rs : List (List Shown)) → answer c v k q s (length o) (length p) ≡ fine rs → (u : SelectTree) → translate_over c v k q s (length o) ≡ fine u →
       answer_of c s q u (length p) ≡ fine rs → AnswerReads c v k q s o p o' p' r
   unfolding answer_of result_by held_by or_else
@@ -111,18 +103,17 @@ module _ (c v : List ℕ) (k q : ℕ) (s o p o' p' : List ℕ) (r : Result) (vie
         files = files;
         tree_is = met.tree ∙ ap (λ (x : Checked SelectTree). held_by tree_file x o) f ∙ ap (λ (x : SelectTree). over (tree_file x) o) t.is;
         answer_is = met.holds ∙ ap (λ (x : Checked (List (List Shown))). held_by answer_file x p) e ∙ ap (λ (x : List (List Shown)). over (answer_file x) p) (sym same);
-        count_is = ap (λ (x : Result). x.count) (met.says ∙ ap (result_by length) e) ∙ ap length (sym same);
+        count_is = met.says ∙ ap (result_by length) e ∙ ap (λ (x : List (List Shown)). fine (length x)) (sym same);
         promised = promise files k q;
       }
 
-  from_answer : (x : Checked (List (List Shown))) → answer c v k q s (length o) (length p) ≡ x → Numbered x → r.number ≡ 0 → AnswerReads c v k q s o p o' p' r
+  from_answer : (x : Checked (List (List Shown))) (n : ℕ) → answer c v k q s (length o) (length p) ≡ x → r ≡ fine n → AnswerReads c v k q s o p o' p' r
   unfolding result_by answer
-  from_answer (fine rs) e h z = answer_tree c v k q s (length o) (length p) rs (translate_over c v k q s (length o)) refl e (λ u f g. from_tree rs e u f g)
-  from_answer (refusal i j) e h z =
-      let a : r ≡ result_by (length {A = List Shown}) (refusal i j) = met.says ∙ ap (result_by (length {A = List Shown})) e in
-      absurd (h (sym (ap (λ (y : Result). y.number) a) ∙ z))
+  from_answer (fine rs) n e z = answer_tree c v k q s (length o) (length p) rs (translate_over c v k q s (length o)) refl e (λ u f g. from_tree rs e u f g)
+  from_answer (refusal i j) n e z =
+      let a : fine n ≡ refusal i j = sym z ∙ met.says ∙ ap (result_by (length {A = List Shown})) e in
+      absurd (let y : ◌≡◌ {A = ℕ} 0 1 = cc in omega arith)
 
-  -- NUMBER 0: the answer is what was read, and it keeps the promises
-  pub answer_reads : r.number ≡ 0 → AnswerReads c v k q s o p o' p' r
-  answer_reads z =
-      from_answer (answer c v k q s (length o) (length p)) refl (answer_numbered c v k q (length o) s (length p)) z
+  -- ACCEPTED: the answer is what was read, and it keeps the promises
+  pub answer_reads : {n : ℕ} → r ≡ fine n → AnswerReads c v k q s o p o' p' r
+  answer_reads {n} z = from_answer (answer c v k q s (length o) (length p)) n refl z

@@ -19,7 +19,7 @@ use Rattle.cell.specs.declared.Type.{«Type» as Ty}
 use Rattle.cell.specs.declared.Type.TheVariants as T
 use Rattle.catalogue.specs.Fault.{check_of}
 use Rattle.catalogue.specs.Tables.{Table, Column, TabRef, catalogue_of}
-use Rattle.catalogue.specs.declared.Verdict.TheVariants.{Tables}
+use Rattle.word.specs.Refusal.{fine}
 use Rattle.catalogue.proofs.Meaning.{accepted}
 use Rattle.catalogue.proofs.Listed.{info_is, tclass_is, row_is, ColumnStands, table_stands, column_stands}
 use Rattle.store.specs.Rows.{All}
@@ -73,7 +73,7 @@ column_small : (c : List ℕ) → Bytes c → (k : Column) → ColumnStands c k 
 column_small c h k s =
     rw (s.column, info_is c s.place, info_bound (op_at c s.place) (b_at c s.place)) (word_small c h _)
 
-pub catalogue_small : (c : List ℕ) (tables : ℕ) → Bytes c → check_of c ≡ Tables tables → All TableSmall (catalogue_of c)
+pub catalogue_small : (c : List ℕ) (tables : ℕ) → Bytes c → check_of c ≡ fine tables → All TableSmall (catalogue_of c)
 catalogue_small c tables h e =
     let a = accepted c tables e in
     nth_all TableSmall (catalogue_of c) (λ j t f.

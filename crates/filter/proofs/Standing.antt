@@ -16,7 +16,7 @@ use Rattle.cell.specs.declared.Type.{«Type» as Ty}
 use Rattle.cell.specs.declared.Type.TheVariants as T
 use Rattle.catalogue.specs.Fault.{check_of}
 use Rattle.catalogue.specs.Tables.{Table, TabRef, catalogue_of}
-use Rattle.catalogue.specs.declared.Verdict.TheVariants.{Tables}
+use Rattle.word.specs.Refusal.{fine}
 use Rattle.store.specs.Rows.{All}
 use Rattle.view.specs.Ast.{Exp, Block, ok}
 use Rattle.view.specs.Parse.{parse_view}
@@ -62,7 +62,7 @@ values_sound cat r m Γ g s (a ∷ es) o h l xs ts e =
     rw w.is ((i, k), n)
 
 module _ (c v : List ℕ) (tables records : ℕ) (b : Block) (sel : Select) (tys : List Ty) (cat_bytes : Bytes c) (view_bytes : Bytes v)
-    (catalogue_fine : check_of c ≡ Tables tables) (view_fine : parse_view v ≡ ok b records) (view_resolved : resolve_view (catalogue_of c) b ≡ select sel tys) where
+    (catalogue_fine : check_of c ≡ fine tables) (view_fine : parse_view v ≡ ok b records) (view_resolved : resolve_view (catalogue_of c) b ≡ select sel tys) where
   pub view_sound : SelectSound sel
   view_sound =
       let r = catalogue_rule c tables catalogue_fine in

@@ -7,6 +7,7 @@ use mathlib.Core.List.{List}
 use native.Mathlib.Omega.{arith}
 use borrow.Author.Tests.{leb-true}
 use lib.Dec.{leb}
+use Rattle.word.specs.Refusal.{fine, refusal, and_then}
 use Rattle.cell.specs.declared.Type.{«Type» as Ty}
 use Rattle.catalogue.specs.Tables.{catalogue_of}
 use Rattle.view.specs.Ast.{Block, Parsed, ok, refused}
@@ -16,7 +17,7 @@ use Rattle.resolve.specs.Expr.{Select}
 use Rattle.resolve.specs.Resolve as resolve
 use Rattle.tree.specs.Tree.{SelectTree, size_select}
 use Rattle.tree.specs.Select.{translated}
-use Rattle.filter.specs.Jobs.{fine, refusal, and_then, resolved_by, view_by, tree_fits, tree_of}
+use Rattle.filter.specs.Jobs.{resolved_by, view_by, tree_fits, tree_of}
 
 -- where the tree comes from
 pub record TreeIs (c v : List ℕ) (k q room : ℕ) (t : SelectTree) : Type 0 where
@@ -47,7 +48,7 @@ fits_inv room u t e = go (leb (size_select u) 8190 && leb (8 + 8 * size_select u
 module _ (c v : List ℕ) (k q room : ℕ) (t : SelectTree) where
   from_names : (b : Block) (m : ℕ) → parse_view v ≡ ok b m → (x : resolve.Resolved) → resolve.resolve_view (catalogue_of c) b ≡ x →
       and_then (resolved_by x) (λ s. tree_fits room (translated k q s)) ≡ fine t → TreeIs c v k q room t
-  unfolding and_then resolved_by
+  unfolding resolved_by
   from_names b m f (resolve.select s ts) g e =
       let (i, j, l) = fits_inv room (translated k q s) t e in
       record {
@@ -64,7 +65,7 @@ module _ (c v : List ℕ) (k q room : ℕ) (t : SelectTree) where
   from_names b m f (resolve.refused i p) g e = absurd (let z : ◌≡◌ {A = ℕ} 0 1 = cc in omega arith)
 
   from_view : (P : Parsed Block) → parse_view v ≡ P → and_then (view_by (catalogue_of c) P) (λ s. tree_fits room (translated k q s)) ≡ fine t → TreeIs c v k q room t
-  unfolding view_by and_then
+  unfolding view_by
   from_view (ok b m) f e = from_names b m f (resolve.resolve_view (catalogue_of c) b) refl e
   from_view (refused i p) f e = absurd (let z : ◌≡◌ {A = ℕ} 0 1 = cc in omega arith)
 

@@ -10,21 +10,16 @@ use lib.Dec.{leb}
 use lib.ListN.{length}
 use Rattle.word.specs.Buffer.{Wrote, Room}
 use Rattle.word.specs.Header.{count_at}
+use Rattle.word.specs.Refusal.{Checked, fine, refusal, and_then}
 use Rattle.word.proofs.Writing.{put_start}
 use Rattle.catalogue.specs.Fault as fault
 use Rattle.catalogue.specs.Tables.{Table, tables_from, catalogue_of}
 use Rattle.catalogue.specs.Starts.{starts_array}
-use Rattle.catalogue.specs.declared.Verdict as catalogue
-use Rattle.catalogue.specs.declared.Verdict.TheVariants as catalogues
 use Rattle.catalogue.proofs.Meaning.{accepted, taken_starts}
 use Rattle.catalogue.proofs.Listed.{catalogue_is}
 use Rattle.store.specs.Layout as layout
-use Rattle.store.specs.declared.Verdict as store
-use Rattle.store.specs.declared.Verdict.TheVariants as stores
 use Rattle.view.specs.Ast.{Block, Parsed, ok, refused}
 use Rattle.view.specs.Parse as parse
-use Rattle.view.specs.declared.Verdict as view
-use Rattle.view.specs.declared.Verdict.TheVariants as views
 use Rattle.view.proofs.Laws.{and_left, and_right}
 use Rattle.view.proofs.Whole as whole
 use Rattle.resolve.specs.Resolve as resolve
@@ -32,25 +27,12 @@ use Rattle.resolve.specs.Claims as claims
 use Rattle.resolve.specs.Sizes.{sums_of}
 use Rattle.resolve.specs.declared.Files.{Files}
 use Rattle.resolve.specs.declared.Sums.{Sums}
-use Rattle.resolve.specs.declared.Verdict as names
-use Rattle.resolve.specs.declared.Verdict.TheVariants as namings
 use Rattle.tree.specs.Tree.{SelectTree, size_select, tree_file}
 use Rattle.tree.specs.Select.{translated}
 use Rattle.tree.proofs.Sizes.{length_file}
-use Rattle.filter.specs.Jobs.{Checked, fine, refusal, and_then, catalogue_by, store_by, resolved_by, view_by, tree_fits, tree_of, over, result_by, held_by, translate, Translated, translate_over, answer, Answered}
+use Rattle.filter.specs.Jobs.{resolved_by, view_by, tree_fits, tree_of, over, result_by, held_by, translate, Translated, translate_over, answer, Answered}
 use Rattle.label.specs.Whole.{select_in, select_at, tree_at, Viewed}
-use Rattle.filter.specs.Steps.{denied, taken, TreeGiven, BothGiven}
-use Rattle.filter.specs.declared.Result.{Result}
-
--- ---- results
-
-pub denied_made : (number place : ℕ) → record { number = number; place = place; count = 0 } ≡ denied number place
-unfolding denied
-denied_made number place = refl
-
-pub taken_made : (count : ℕ) → record { number = 0; place = 0; count = count } ≡ taken count
-unfolding taken
-taken_made count = refl
+use Rattle.filter.specs.Steps.{TreeGiven, BothGiven}
 
 -- ---- the tree of a resolved view: 10, or written
 
@@ -89,27 +71,26 @@ module _ (t : SelectTree) (size : ℕ) (o : List ℕ) (e : size ≡ min (size_se
       go false g = refl
 
   -- written
-  pub tree_written : {o' : List ℕ} {end : ℕ} {r : Result} → (leb size 8190 && leb (8 + 8 * size) (length o)) ≡ true → Wrote o 0 (tree_file t) o' end → r ≡ taken size →
-      TreeGiven (tree_fits (length o) t) o o' r
-  unfolding taken result_by held_by over
-  tree_written {o'} {end} {r} h w x =
+  pub tree_written : {o' : List ℕ} {end : ℕ} → (leb size 8190 && leb (8 + 8 * size) (length o)) ≡ true → Wrote o 0 (tree_file t) o' end → TreeGiven (tree_fits (length o) t) o o' (fine size)
+  unfolding result_by held_by over
+  tree_written {o'} {end} h w =
       let (p, a, b) = measured (size_select t) size (length o) e h in
       record {
-        says = rw (fits_yes h) (x ∙ ap taken p);
+        says = rw (fits_yes h) (ap fine p);
         holds = rw (fits_yes h) (w.now_is ∙ put_start o (tree_file t) (omega (arith, b, length_file t)));
       }
 
   -- 10
-  pub tree_large : {r : Result} → (leb size 8190 && leb (8 + 8 * size) (length o)) ≡ false → r ≡ denied 10 0 → TreeGiven (tree_fits (length o) t) o o r
-  unfolding denied result_by held_by
-  tree_large h x = record { says = rw (fits_no h) x; holds = rw (fits_no h) }
+  pub tree_large : (leb size 8190 && leb (8 + 8 * size) (length o)) ≡ false → TreeGiven (tree_fits (length o) t) o o (refusal 10 0)
+  unfolding result_by held_by
+  tree_large h = record { says = rw (fits_no h); holds = rw (fits_no h) }
 
 -- ---- a view over an accepted catalogue
 
 -- a refusal leaves the buffer
-tree_refused : (x : Checked SelectTree) (i p : ℕ) (o : List ℕ) (r : Result) → x ≡ refusal i p → r ≡ denied i p → TreeGiven x o o r
-unfolding denied result_by held_by
-tree_refused x i p o r e f = record { says = rw e f; holds = rw e }
+tree_refused : (x : Checked SelectTree) (i p : ℕ) (o : List ℕ) → x ≡ refusal i p → TreeGiven x o o (refusal i p)
+unfolding result_by held_by
+tree_refused x i p o e = record { says = rw e; holds = rw e }
 
 -- the view's structure, names and types in one
 by_names : (cat : List Table) (P : Parsed Block) → view_by cat P ≡ resolved_by (claims.resolved_by cat P)
@@ -117,20 +98,20 @@ unfolding view_by resolved_by claims.resolved_by
 by_names cat (ok b end) = refl
 by_names cat (refused i p) = refl
 
-names_refused : (k : ℕ) (x : resolve.Resolved) (r : names.Verdict) (i p : ℕ) → r ≡ claims.verdict_of k x → r ≡ namings.Refused i p → resolved_by x ≡ refusal i p
+names_refused : (k : ℕ) (x : resolve.Resolved) (i p : ℕ) → refusal i p ≡ claims.verdict_of k x → resolved_by x ≡ refusal i p
 unfolding claims.verdict_of resolved_by
-names_refused k (resolve.select s ts) r i p e f = absurd (let z : ◌≡◌ {A = ℕ} 0 1 = cc in omega arith)
-names_refused k (resolve.refused j m) r i p e f = let a : j ≡ i = cc in let b : m ≡ p = cc in rw (a, b)
+names_refused k (resolve.select s ts) i p e = absurd (let z : ◌≡◌ {A = ℕ} 0 1 = cc in omega arith)
+names_refused k (resolve.refused j m) i p e = let a : j ≡ i = cc in let b : m ≡ p = cc in rw (a, b)
 
-names_fine : (k : ℕ) (u : Sums) (x : resolve.Resolved) (r : names.Verdict) → r ≡ claims.verdict_of k x → r ≡ namings.Fine u → resolved_by x ≡ fine (select_in x)
+names_fine : (k : ℕ) (u : Sums) (x : resolve.Resolved) → fine u ≡ claims.verdict_of k x → resolved_by x ≡ fine (select_in x)
 unfolding claims.verdict_of resolved_by select_in
-names_fine k u (resolve.select s ts) r e f = refl
-names_fine k u (resolve.refused j m) r e f = absurd (let z : ◌≡◌ {A = ℕ} 0 1 = cc in omega arith)
+names_fine k u (resolve.select s ts) e = refl
+names_fine k u (resolve.refused j m) e = absurd (let z : ◌≡◌ {A = ℕ} 0 1 = cc in omega arith)
 
-names_sums : (k : ℕ) (u : Sums) (x : resolve.Resolved) (r : names.Verdict) → r ≡ claims.verdict_of k x → r ≡ namings.Fine u → u ≡ sums_of k (select_in x)
+names_sums : (k : ℕ) (u : Sums) (x : resolve.Resolved) → fine u ≡ claims.verdict_of k x → u ≡ sums_of k (select_in x)
 unfolding claims.verdict_of select_in
-names_sums k u (resolve.select s ts) r e f = cc
-names_sums k u (resolve.refused j m) r e f = absurd (let z : ◌≡◌ {A = ℕ} 0 1 = cc in omega arith)
+names_sums k u (resolve.select s ts) e = cc
+names_sums k u (resolve.refused j m) e = absurd (let z : ◌≡◌ {A = ℕ} 0 1 = cc in omega arith)
 
 module _ (c v : List ℕ) (k q room : ℕ) where
   -- the tables that the code reads are the catalogue's
@@ -138,22 +119,20 @@ module _ (c v : List ℕ) (k q room : ℕ) where
   unfolding tree_of
   by_files n e = rw (catalogue_is c n e, by_names (catalogue_of c) (parse.parse_view v))
 
-  view_denied : (r : view.Verdict) (i p : ℕ) → r ≡ parse.check_of v → r ≡ views.Refused i p → tree_of c v k q room ≡ refusal i p
-  unfolding tree_of view_by and_then
-  view_denied r i p e f = rw (whole.denied v e f)
+  view_denied : (i p : ℕ) → refusal i p ≡ parse.check_of v → tree_of c v k q room ≡ refusal i p
+  unfolding tree_of view_by
+  view_denied i p e = rw (whole.denied v e refl)
 
-  names_denied : (n l : ℕ) (r : names.Verdict) (i p : ℕ) → n ≡ count_at c → r ≡ claims.verdict_of l (claims.resolved_by (tables_from c n n 0) (parse.parse_view v)) → r ≡ namings.Refused i p →
-      tree_of c v k q room ≡ refusal i p
-  unfolding and_then
-  names_denied n l r i p e f g = by_files n e ∙ rw (names_refused l (claims.resolved_by (tables_from c n n 0) (parse.parse_view v)) r i p f g)
+  names_denied : (n l : ℕ) (i p : ℕ) → n ≡ count_at c → refusal i p ≡ claims.verdict_of l (claims.resolved_by (tables_from c n n 0) (parse.parse_view v)) → tree_of c v k q room ≡ refusal i p
+  names_denied n l i p e f = by_files n e ∙ rw (names_refused l (claims.resolved_by (tables_from c n n 0) (parse.parse_view v)) i p f)
 
-  names_taken : (f : Files) (u : Sums) (r : names.Verdict) → f.nc ≡ count_at c → f.k ≡ k → r ≡ claims.verdict_of f.k (claims.resolved_by (tables_from c f.nc f.nc 0) (parse.parse_view v)) →
-      r ≡ namings.Fine u → tree_of c v k q room ≡ tree_fits room (tree_at c v f q)
-  unfolding and_then tree_at select_at
-  names_taken f u r e p g h = by_files f.nc e ∙ rw (p, names_fine f.k u (claims.resolved_by (tables_from c f.nc f.nc 0) (parse.parse_view v)) r g h)
+  names_taken : (f : Files) (u : Sums) → f.nc ≡ count_at c → f.k ≡ k → fine u ≡ claims.verdict_of f.k (claims.resolved_by (tables_from c f.nc f.nc 0) (parse.parse_view v)) →
+      tree_of c v k q room ≡ tree_fits room (tree_at c v f q)
+  unfolding tree_at select_at
+  names_taken f u e p g = by_files f.nc e ∙ rw (p, names_fine f.k u (claims.resolved_by (tables_from c f.nc f.nc 0) (parse.parse_view v)) g)
 
 -- what the calls require
-module _ (c : List ℕ) (t : ℕ) (e : fault.check_of c ≡ catalogues.Tables t) where
+module _ (c : List ℕ) (t : ℕ) (e : fault.check_of c ≡ fine t) where
   pub cat_header : 6 + 2 ≤ length c
   cat_header = omega (arith, (accepted c t e).long_enough)
 
@@ -163,100 +142,70 @@ module _ (c : List ℕ) (t : ℕ) (e : fault.check_of c ≡ catalogues.Tables t)
   pub cat_few : (n : ℕ) → n ≡ count_at c → n ≤ 2080
   cat_few n f = omega (arith, (accepted c t e).few_records)
 
-  pub cat_view : (n k : ℕ) (ss v : List ℕ) {r : view.Verdict} {m : ℕ} → n ≡ count_at c → ss ≡ starts_array c n → r ≡ parse.check_of v → r ≡ views.Records m →
+  pub cat_view : (n k : ℕ) (ss v : List ℕ) {m : ℕ} → n ≡ count_at c → ss ≡ starts_array c n → fine m ≡ parse.check_of v →
       claims.Accepted c ss v (record { nc = n; tables = t; n = m; k = k })
-  cat_view n k ss v f g h i =
+  cat_view n k ss v f g h =
       record {
         cat_long = cat_long n f;
         cat_few = cat_few n f;
         starts = taken_starts c t (fault.check_of c) refl e n f ss g;
-        taken = sym h ∙ i;
+        taken = sym h;
       }
 
-  pub cat_viewed : (n k : ℕ) (ss v : List ℕ) {r : view.Verdict} {m : ℕ} {w : names.Verdict} {u : Sums} → n ≡ count_at c → ss ≡ starts_array c n → r ≡ parse.check_of v → r ≡ views.Records m →
-      w ≡ claims.verdict_of k (claims.resolved_by (tables_from c n n 0) (parse.parse_view v)) → w ≡ namings.Fine u → Viewed c ss v (record { nc = n; tables = t; n = m; k = k })
-  cat_viewed n k ss v {r} {m} {w} {u} f g h i j l = record { given = cat_view n k ss v f g h i; sums = u; fine = sym j ∙ l }
+  pub cat_viewed : (n k : ℕ) (ss v : List ℕ) {m : ℕ} {u : Sums} → n ≡ count_at c → ss ≡ starts_array c n → fine m ≡ parse.check_of v →
+      fine u ≡ claims.verdict_of k (claims.resolved_by (tables_from c n n 0) (parse.parse_view v)) → Viewed c ss v (record { nc = n; tables = t; n = m; k = k })
+  cat_viewed n k ss v {m} {u} f g h j = record { given = cat_view n k ss v f g h; sums = u; fine = sym j }
 
 -- what the walk has counted
-pub sums_are : (c v : List ℕ) (n t m k : ℕ) {w : names.Verdict} {u : Sums} → w ≡ claims.verdict_of k (claims.resolved_by (tables_from c n n 0) (parse.parse_view v)) → w ≡ namings.Fine u →
+pub sums_are : (c v : List ℕ) (n t m k : ℕ) {u : Sums} → fine u ≡ claims.verdict_of k (claims.resolved_by (tables_from c n n 0) (parse.parse_view v)) →
     u ≡ sums_of k (select_at c v (record { nc = n; tables = t; n = m; k = k }))
 unfolding select_at
-sums_are c v n t m k {w} {u} e g = names_sums k u (claims.resolved_by (tables_from c n n 0) (parse.parse_view v)) w e g
+sums_are c v n t m k {u} e = names_sums k u (claims.resolved_by (tables_from c n n 0) (parse.parse_view v)) e
 
 -- the ways out
-module _ (c v : List ℕ) (k q : ℕ) (o : List ℕ) {x : Result} where
-  pub tree_view : {r : view.Verdict} {i p : ℕ} → r ≡ parse.check_of v → r ≡ views.Refused i p → x ≡ denied i p → TreeGiven (tree_of c v k q (length o)) o o x
-  tree_view {r} {i} {p} e f g = tree_refused (tree_of c v k q (length o)) i p o x (view_denied c v k q (length o) r i p e f) g
+module _ (c v : List ℕ) (k q : ℕ) (o : List ℕ) where
+  pub tree_view : {i p : ℕ} → refusal i p ≡ parse.check_of v → TreeGiven (tree_of c v k q (length o)) o o (refusal i p)
+  tree_view {i} {p} e = tree_refused (tree_of c v k q (length o)) i p o (view_denied c v k q (length o) i p e)
 
-  pub tree_names : (n l : ℕ) {r : names.Verdict} {i p : ℕ} → n ≡ count_at c → r ≡ claims.verdict_of l (claims.resolved_by (tables_from c n n 0) (parse.parse_view v)) → r ≡ namings.Refused i p →
-      x ≡ denied i p → TreeGiven (tree_of c v k q (length o)) o o x
-  tree_names n l {r} {i} {p} e f g h = tree_refused (tree_of c v k q (length o)) i p o x (names_denied c v k q (length o) n l r i p e f g) h
+  pub tree_names : (n l : ℕ) {i p : ℕ} → n ≡ count_at c → refusal i p ≡ claims.verdict_of l (claims.resolved_by (tables_from c n n 0) (parse.parse_view v)) →
+      TreeGiven (tree_of c v k q (length o)) o o (refusal i p)
+  tree_names n l {i} {p} e f = tree_refused (tree_of c v k q (length o)) i p o (names_denied c v k q (length o) n l i p e f)
 
-  pub tree_fine : (f : Files) {o' : List ℕ} {r : names.Verdict} {u : Sums} → f.nc ≡ count_at c → f.k ≡ k → r ≡ claims.verdict_of f.k (claims.resolved_by (tables_from c f.nc f.nc 0) (parse.parse_view v)) →
-      r ≡ namings.Fine u → TreeGiven (tree_fits (length o) (tree_at c v f q)) o o' x → TreeGiven (tree_of c v k q (length o)) o o' x
-  tree_fine f {o'} {r} {u} e p g h t = subst (λ (y : Checked SelectTree). TreeGiven y o o' x) (sym (names_taken c v k q (length o) f u r e p g h)) t
+  pub tree_fine : (f : Files) {o' : List ℕ} {x : Checked ℕ} {u : Sums} → f.nc ≡ count_at c → f.k ≡ k → fine u ≡ claims.verdict_of f.k (claims.resolved_by (tables_from c f.nc f.nc 0) (parse.parse_view v)) →
+      TreeGiven (tree_fits (length o) (tree_at c v f q)) o o' x → TreeGiven (tree_of c v k q (length o)) o o' x
+  tree_fine f {o'} {x} {u} e p g t = subst (λ (y : Checked SelectTree). TreeGiven y o o' x) (sym (names_taken c v k q (length o) f u e p g)) t
 
 -- ---- TRANSLATE
 
-pub taken_is : (c : List ℕ) {r : catalogue.Verdict} {t : ℕ} → r ≡ fault.check_of c → r ≡ catalogues.Tables t → fault.check_of c ≡ catalogues.Tables t
-taken_is c e f = sym e ∙ f
+module _ (c v : List ℕ) (k q : ℕ) (o : List ℕ) where
+  pub translate_denied : {i p : ℕ} → refusal i p ≡ fault.check_of c → Translated c v k q o o (refusal i p)
+  unfolding translate result_by held_by
+  translate_denied e = record { says = rw (← e); holds = rw (← e) }
 
-catalogue_denied : (c : List ℕ) (r : catalogue.Verdict) (i p : ℕ) → r ≡ fault.check_of c → r ≡ catalogues.Refused i p → catalogue_by (fault.check_of c) ≡ refusal i p
-unfolding catalogue_by
-catalogue_denied c r i p e f = let g : fault.check_of c ≡ catalogues.Refused i p = sym e ∙ f in rw g
-
-catalogue_fine : (c : List ℕ) (t : ℕ) → fault.check_of c ≡ catalogues.Tables t → catalogue_by (fault.check_of c) ≡ fine t
-unfolding catalogue_by
-catalogue_fine c t g = rw g
-
-module _ (c v : List ℕ) (k q : ℕ) (o : List ℕ) {x : Result} {r : catalogue.Verdict} (e : r ≡ fault.check_of c) where
-  pub translate_denied : {i p : ℕ} → r ≡ catalogues.Refused i p → x ≡ denied i p → Translated c v k q o o x
-  unfolding translate and_then denied result_by held_by
-  translate_denied {i} {p} f g =
-      let d = catalogue_denied c r i p e f in
-      record { says = rw d g; holds = rw d }
-
-  pub translate_tree : {t : ℕ} {o' : List ℕ} → r ≡ catalogues.Tables t → TreeGiven (tree_of c v k q (length o)) o o' x → Translated c v k q o o' x
-  unfolding translate and_then
-  translate_tree {t} {o'} f g =
-      let d = catalogue_fine c t (taken_is c e f) in
-      record { says = rw d g.says; holds = rw d g.holds }
+  pub translate_tree : {t : ℕ} {o' : List ℕ} {x : Checked ℕ} → fine t ≡ fault.check_of c → TreeGiven (tree_of c v k q (length o)) o o' x → Translated c v k q o o' x
+  unfolding translate
+  translate_tree e g = record { says = rw (← e) g.says; holds = rw (← e) g.holds }
 
 -- ---- ANSWER
 
-store_denied : (c s : List ℕ) (n t : ℕ) (w : store.Verdict) (i p : ℕ) → n ≡ count_at c → w ≡ layout.check_of c n t s → w ≡ stores.Refused i p →
-    store_by (layout.check_of c (count_at c) t s) ≡ refusal i p
-unfolding store_by
-store_denied c s n t w i p e f g =
-    let h : layout.check_of c (count_at c) t s ≡ stores.Refused i p = ap (λ (m : ℕ). layout.check_of c m t s) (sym e) ∙ sym f ∙ g in
-    rw h
+-- the count that was read is the catalogue's
+pub store_is : (c s : List ℕ) (n t : ℕ) {x : Checked (Unit {0})} → n ≡ count_at c → x ≡ layout.check_of c n t s → layout.check_of c (count_at c) t s ≡ x
+store_is c s n t e f = ap (λ (m : ℕ). layout.check_of c m t s) (sym e) ∙ sym f
 
-pub store_is : (c s : List ℕ) (n t : ℕ) {w : store.Verdict} → n ≡ count_at c → w ≡ layout.check_of c n t s → w ≡ stores.Fine → layout.check_of c (count_at c) t s ≡ stores.Fine
-store_is c s n t e f g = ap (λ (m : ℕ). layout.check_of c m t s) (sym e) ∙ sym f ∙ g
+module _ (c v : List ℕ) (k q : ℕ) (s o p : List ℕ) where
+  pub answer_denied : {i j : ℕ} → refusal i j ≡ fault.check_of c → Answered c v k q s o p o p (refusal i j)
+  unfolding answer translate_over result_by held_by
+  answer_denied e = record { says = rw (← e); tree = rw (← e); holds = rw (← e) }
 
-store_fine : (c s : List ℕ) (t : ℕ) → layout.check_of c (count_at c) t s ≡ stores.Fine → store_by (layout.check_of c (count_at c) t s) ≡ fine 0
-unfolding store_by
-store_fine c s t e = rw e
+  pub answer_store : (n t : ℕ) {i j : ℕ} → fine t ≡ fault.check_of c → n ≡ count_at c → refusal i j ≡ layout.check_of c n t s → Answered c v k q s o p o p (refusal i j)
+  unfolding answer translate_over result_by held_by
+  answer_store n t e g h =
+      let b = store_is c s n t g h in
+      record { says = rw (← e, b); tree = rw (← e, b); holds = rw (← e, b) }
 
-module _ (c v : List ℕ) (k q : ℕ) (s o p : List ℕ) {x : Result} {r : catalogue.Verdict} (e : r ≡ fault.check_of c) where
-  pub answer_denied : {i j : ℕ} → r ≡ catalogues.Refused i j → x ≡ denied i j → Answered c v k q s o p o p x
-  unfolding answer translate_over and_then denied result_by held_by
-  answer_denied {i} {j} f g =
-      let d = catalogue_denied c r i j e f in
-      record { says = rw d g; tree = rw d; holds = rw d }
-
-  pub answer_store : (n t : ℕ) {w : store.Verdict} {i j : ℕ} → r ≡ catalogues.Tables t → n ≡ count_at c → w ≡ layout.check_of c n t s → w ≡ stores.Refused i j → x ≡ denied i j →
-      Answered c v k q s o p o p x
-  unfolding answer translate_over and_then denied result_by held_by
-  answer_store n t {w} {i} {j} f g h l m =
-      let d = catalogue_fine c t (taken_is c e f) in
-      let b = store_denied c s n t w i j g h l in
-      record { says = rw (d, b) m; tree = rw (d, b); holds = rw (d, b) }
-
-  pub answer_both : (n t : ℕ) {o' p' : List ℕ} {w : store.Verdict} → r ≡ catalogues.Tables t → n ≡ count_at c → w ≡ layout.check_of c n t s → w ≡ stores.Fine →
-      BothGiven c v k q s o p o' p' x → Answered c v k q s o p o' p' x
-  unfolding answer translate_over and_then
-  answer_both n t f g h l m =
-      let d = catalogue_fine c t (taken_is c e f) in
-      let b = store_fine c s t (store_is c s n t g h l) in
-      record { says = rw (d, b) m.says; tree = rw (d, b) m.tree; holds = rw (d, b) m.holds }
+  pub answer_both : (n t : ℕ) {o' p' : List ℕ} {x : Checked ℕ} → fine t ≡ fault.check_of c → n ≡ count_at c → fine tt ≡ layout.check_of c n t s → BothGiven c v k q s o p o' p' x →
+      Answered c v k q s o p o' p' x
+  unfolding answer translate_over
+  answer_both n t e g h m =
+      let b = store_is c s n t g h in
+      record { says = rw (← e, b) m.says; tree = rw (← e, b) m.tree; holds = rw (← e, b) m.holds }

@@ -14,7 +14,7 @@ use Rattle.cell.specs.declared.Type.{«Type» as Ty}
 use Rattle.cell.proofs.Typing.{digits_in_rule, binop_in_rule, limb_in_rule}
 use Rattle.catalogue.specs.Fault.{check_of}
 use Rattle.catalogue.specs.Tables.{Table, Column, TabRef, table_named, catalogue_of}
-use Rattle.catalogue.specs.declared.Verdict.TheVariants.{Tables}
+use Rattle.word.specs.Refusal.{fine}
 use Rattle.catalogue.proofs.Meaning.{accepted}
 use Rattle.catalogue.proofs.Listed.{named_is, table_stands, column_stands, column_in_rule}
 use Rattle.view.specs.Ast.{TabName, Exp, ok}
@@ -183,7 +183,7 @@ tables_all [] h = tt
 tables_all (t ∷ ts) h = (h 0 t refl, tables_all ts (λ j. h (suc j)))
 
 -- an accepted catalogue's types are in rule
-pub catalogue_rule : (c : List ℕ) (tables : ℕ) → check_of c ≡ Tables tables → TablesRule (catalogue_of c)
+pub catalogue_rule : (c : List ℕ) (tables : ℕ) → check_of c ≡ fine tables → TablesRule (catalogue_of c)
 catalogue_rule c tables e =
     let a = accepted c tables e in
     tables_all (catalogue_of c) (λ j t f.

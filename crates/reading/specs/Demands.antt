@@ -2,6 +2,7 @@
 -- the run of the tree against the reading rules, names as written. Assumes nothing.
 use Rattle.std.specs.Prelude.{ℕ, ◌<◌, ◌≡◌, Bool, List, [], ◌∷◌, get_or}
 use Rattle.word.specs.Header.{count_at}
+use Rattle.word.specs.Refusal.{fine}
 use Rattle.class.specs.Class.{Dominates}
 use Rattle.cell.specs.Res.{done}
 use Rattle.cell.specs.Values.{HasTy}
@@ -11,10 +12,8 @@ use Rattle.cell.specs.declared.Value.{Value}
 use Rattle.cell.specs.declared.Value.TheVariants as X
 use Rattle.catalogue.specs.Fault as fault
 use Rattle.catalogue.specs.Tables.{Table, TabRef, catalogue_of}
-use Rattle.catalogue.specs.declared.Verdict.TheVariants as catalogue
 use Rattle.store.specs.Layout as layout
 use Rattle.store.specs.Rows.{Row, All, All2}
-use Rattle.store.specs.declared.Verdict.TheVariants as store
 use Rattle.view.specs.Ast.{Exp, Block, ok}
 use Rattle.view.specs.Parse.{parse_view}
 use Rattle.resolve.specs.Expr.{Expr, Select}
@@ -33,10 +32,10 @@ Bytes s = (i : ℕ) → get_or s i 0 < 256
 -- THE FILES ARE ACCEPTED: the catalogue c, with so many tables; the view v, whose tree is b, of so many records, resolved to SELECT and the
 -- declared types of its columns; the store s
 pub record Accepted (c v s : List ℕ) (tables : ℕ) (b : Block) (records : ℕ) (sel : Select) (tys : List Ty) : Type 0 where
-  pub catalogue_fine : fault.check_of c ≡ catalogue.Tables tables
+  pub catalogue_fine : fault.check_of c ≡ fine tables
   pub view_fine : parse_view v ≡ ok b records
   pub view_resolved : resolve_view (catalogue_of c) b ≡ select sel tys
-  pub store_fine : layout.check_of c (count_at c) tables s ≡ store.Fine
+  pub store_fine : layout.check_of c (count_at c) tables s ≡ fine tt
   pub view_bytes : Bytes v
   pub store_bytes : Bytes s
 
