@@ -9,7 +9,7 @@ use native.Mathlib.Omega.{arith}
 use borrow.Author.Rules.{rules}
 use borrow.Author.Tests.{eq-eqb, ne_eqb}
 use lib.Dec.{eqb}
-use Rattle.word.specs.Record.{kind_at, op_at, a_at, b_at}
+use Rattle.word.specs.Record.{Record, rec_at, kind_at, op_at, a_at, b_at, c_at}
 use Rattle.class.specs.Info.{info_by}
 use Rattle.class.specs.declared.Info.{Info}
 use Rattle.cell.specs.declared.Type.{«Type» as Ty}
@@ -20,6 +20,20 @@ use Rattle.scope.specs.Match.{FirstIs, MatchIs, first_by, only_by}
 use Rattle.scope.specs.declared.Matches.{Matches}
 use Rattle.scope.specs.declared.Matches.TheVariants as N
 use Rattle.scope.specs.declared.Found.TheVariants as F
+
+-- the fields of a record that was read
+module _ (c : List ℕ) (i : ℕ) (x : Record) (e : x ≡ rec_at c i) where
+  pub kind_read : x.kind ≡ kind_at c i
+  unfolding rec_at
+  kind_read = ap (λ (r : Record). r.kind) e
+
+  pub a_read : x.a ≡ a_at c i
+  unfolding rec_at
+  a_read = ap (λ (r : Record). r.a) e
+
+  pub c_read : x.c ≡ c_at c i
+  unfolding rec_at
+  c_read = ap (λ (r : Record). r.c) e
 
 -- no column from record i up to record j has the name
 pub record Unnamed (c : List ℕ) (n i name j : ℕ) : Type 0 where

@@ -1,18 +1,17 @@
 -- A block's tables by their names: what the catalogue says of each, what the entry made of them opens, and the names as they were read.
 -- Assumes nothing.
-use Prim.Native.Nat.{ℕ, zero, suc, ◌+◌, ◌-◌, ◌*◌, ◌%◌, ◌<◌, ◌≤◌, min}
-use mathlib.Core.Path.{◌≡◌, refl, sym, ap, ◌∙◌}
+use Prim.Native.Nat.{ℕ, zero, suc, ◌+◌, ◌-◌, ◌<◌, ◌≤◌, min}
+use mathlib.Core.Path.{◌≡◌, refl, sym, ap, subst, ◌∙◌}
 use mathlib.Core.Bool.{Bool, true, false, cond}
 use mathlib.Core.List.{List, [], ◌∷◌, map}
 use native.Mathlib.Omega.{arith}
-use native.Mathlib.Decide.{dec_lt, ℕ_discrete}
-use borrow.Author.Tests.{ne_eqb}
+use native.Mathlib.Decide.{dec_lt}
 use lib.Dec.{eqb, ltb}
-use lib.ListN.{get_or, length, length-map, replicate, set}
-use lib.Seq.{get_or-set_same, get_or-set_other}
+use lib.ListN.{get_or, length, length-map, replicate}
 use Rattle.word.specs.Buffer.{put}
+use Rattle.word.specs.Refusal.{Checked, fine, refusal}
 use Rattle.word.specs.Record.{a_at}
-use Rattle.word.proofs.Writing.{length_put, put_at, put_after}
+use Rattle.word.proofs.Writing.{put_at, put_after}
 use Rattle.class.specs.declared.Info.TheVariants.{Fixed}
 use Rattle.cell.specs.Res.{Res, stuck, done, nth}
 use Rattle.cell.specs.declared.Type.TheVariants.{Null}
@@ -22,13 +21,10 @@ use Rattle.catalogue.proofs.Places.{named_in, find_begin, starts_number, start_i
 use Rattle.view.specs.Ast.{TabName}
 use Rattle.view.specs.Record.{node_at}
 use Rattle.view.specs.Parse.{name_of, names_at}
-use Rattle.scope.specs.Words.{count_in, table_in, type_in, info_in}
 use Rattle.scope.specs.Table.{tabs_at, open_of}
 use Rattle.scope.specs.Blocks.{Tabs, all, missing, before, found_at, tables_named, refs_of, opened}
-use Rattle.scope.specs.Entry.{block_scope, opened_as, missing_at, places_of, opened_by, Among}
+use Rattle.scope.specs.Entry.{count_in, table_in, type_in, info_in, block_scope, places_of, opened_by, Among}
 use Rattle.scope.specs.declared.Scope.{Scope}
-use Rattle.scope.specs.declared.Opened.{Opened}
-use Rattle.scope.proofs.Locals.{block_type, block_info}
 
 -- a table that was looked up: its number is one of the catalogue's, and it is the table of that number's record
 pub record RefIs (c : List ℕ) (n tables : ℕ) (ss : List ℕ) (t : TabRef) : Type 0 where
@@ -46,19 +42,6 @@ zeros : (k j : ℕ) → ◌≡◌ {A = ℕ} (get_or (replicate k 0) j 0) 0
 zeros zero j = refl
 zeros (suc k) zero = refl
 zeros (suc k) (suc j) = zeros k j
-
--- what is read of an entry of so many tables
-block_count : (ws : List ℕ) (k : ℕ) → 3 < length ws → k < 16 → count_in (block_scope ws k) ≡ k
-unfolding count_in block_scope
-block_count ws k h l = rw (get_or-set_same ws 3 (get_or ws 3 0 % 4096 + 4096 * k) 0 h) (omega arith)
-
-block_table : (ws : List ℕ) (k j : ℕ) → 3 < length ws → table_in (block_scope ws k) j ≡ get_or ws j 0 % 4096
-unfolding table_in block_scope
-block_table ws k j h = go (ℕ_discrete j 3)
-  where
-    go : Dec (j ≡ 3) → get_or (set ws 3 (get_or ws 3 0 % 4096 + 4096 * k)) j 0 % 4096 ≡ get_or ws j 0 % 4096
-    go (yes e) = rw (e, get_or-set_same ws 3 (get_or ws 3 0 % 4096 + 4096 * k) 0 h) (omega arith)
-    go (no e) = rw (get_or-set_other ws 3 j (get_or ws 3 0 % 4096 + 4096 * k) 0 e)
 
 module _ (c : List ℕ) (n tables : ℕ) (ss : List ℕ) (a : StartsAre c n tables ss) where
   named_in_lem : (name j : ℕ) (is : List ℕ) (t : TabRef) → named_in c n name j is ≡ done t → (j ≤ t.num) × (t.num < j + length is) × (t.table ≡ table_at c n (get_or is (t.num - j) 0))
@@ -110,32 +93,23 @@ module _ (c : List ℕ) (n tables : ℕ) (ss : List ℕ) (a : StartsAre c n tabl
     abbrev entry : Scope
     entry = block_scope (put (replicate 4 0) 0 (places_of ss ts)) (length ts)
 
-    four_words : length (put (replicate 4 0) 0 (places_of ss ts)) ≡ 4
-    four_words = length_put (replicate 4 0) 0 (places_of ss ts)
-
-    entry_counts : count_in entry ≡ length ts
-    entry_counts = block_count _ (length ts) (omega (arith, four_words)) (omega arith)
-
     put_here : (j : ℕ) → j < length ts → table_in entry (0 + j) ≡ get_or (places_of ss ts) j 0
-    put_here j h =
-        block_table _ (length ts) (0 + j) (omega (arith, four_words))
-        ∙ rw (put_at (replicate 4 0) 0 (places_of ss ts) j (simp length-map (omega arith)) (simp length-map h)) (omega (arith, places_below ts r j h))
+    unfolding table_in block_scope
+    put_here j h = put_at (replicate 4 0) 0 (places_of ss ts) j (simp length-map (omega arith)) (simp length-map h)
 
     entry_opens : open_of c n entry ≡ opened ts
-    unfolding open_of
-    entry_opens =
-        let e : min (length ts) 4 ≡ length ts = omega arith in
-        let f : (length ts ≡ 0 → ⊥) = omega arith in
-        rw (entry_counts, ne_eqb (length ts) 0 f, e, tabs_are entry 0 ts r put_here)
+    unfolding open_of block_scope
+    entry_opens = let e : min (length ts) 4 ≡ length ts = omega arith in rw (e, tabs_are entry 0 ts r put_here)
+
+    entry_below : (j : ℕ) → Dec (j < length ts) → table_in entry j < n
+    unfolding table_in block_scope
+    entry_below j (yes h) = let z : 0 + j ≡ j = omega arith in rw (rw z at (put_here j h)) (places_below ts r j h)
+    entry_below j (no h) =
+        let e : get_or (put (replicate 4 0) 0 (places_of ss ts)) j 0 ≡ 0 = put_after (replicate 4 0) 0 (places_of ss ts) j (simp length-map (omega arith)) ∙ zeros 4 j in
+        rw e (omega (arith, places_below ts r 0 some))
 
     entry_among : Among n entry
-    entry_among = record { below = λ j. by j (dec_lt j (length ts)) }
-      where
-        by : (j : ℕ) → Dec (j < length ts) → table_in entry j < n
-        by j (yes h) = let z : 0 + j ≡ j = omega arith in rw (rw z at (put_here j h)) (places_below ts r j h)
-        by j (no h) =
-            let e : get_or (put (replicate 4 0) 0 (places_of ss ts)) j 0 ≡ 0 = put_after (replicate 4 0) 0 (places_of ss ts) j (simp length-map (omega arith)) ∙ zeros 4 j in
-            rw (block_table (put (replicate 4 0) 0 (places_of ss ts)) (length ts) j (omega (arith, four_words)), e) (omega (arith, places_below ts r 0 some))
+    entry_among = record { below = λ j. entry_below j (dec_lt j (length ts)) }
 
 -- the names of a block's TABLE records
 module _ (cat : List Table) (v : List ℕ) where
@@ -160,42 +134,63 @@ pub record BlockOpened (c : List ℕ) (n : ℕ) (T : Tabs) (s : Scope) : Type 0 
   pub among : Among n s
   pub counted : count_in s ≡ length (refs_of T)
 
-pub block_missing : (ss : List ℕ) (T : Tabs) (o : Opened) → o ≡ opened_by ss T → o.fine ≡ false → T ≡ missing o.place
-block_missing ss (all ts) o e f = absurd (unfold opened_by opened_as in let y : true ≡ false = sym (ap (λ x. x.fine) e) ∙ f in let z : ◌≡◌ {A = ℕ} 0 1 = cc in omega arith)
-block_missing ss (missing p) o e f = unfold opened_by missing_at in rw e
+-- the first table that is missing is one of those named
+missing_first : (cat : List Table) (v : List ℕ) (at count p : ℕ) → tables_named cat (names_at v at count) ≡ missing p → p < at + count
+unfolding tables_named names_at found_at before
+missing_first cat v at zero p e = absurd (let z : ◌≡◌ {A = ℕ} 0 1 = cc in omega arith)
+missing_first cat v at (suc count) p e = go (table_named (name_of (node_at v at)) cat) (tables_named cat (names_at v (at + 1) count)) (missing_first cat v (at + 1) count p) e
+  where
+    go : (x : Res TabRef) (r : Tabs) → (r ≡ missing p → p < at + 1 + count) → found_at at x r ≡ missing p → p < at + suc count
+    go stuck r h k = let z : at ≡ p = cc in omega arith
+    go (done t) (all ts) h k = absurd (let z : ◌≡◌ {A = ℕ} 0 1 = cc in omega arith)
+    go (done t) (missing q) h k = let l = h k in omega arith
 
 module _ (c : List ℕ) (n tables : ℕ) (ss : List ℕ) (v : List ℕ) (at count : ℕ) where
-  pub block_opened : (o : Opened) → StartsAre c n tables ss → n ≤ 2080 → (1 ≤ count) × (count ≤ 4) → o ≡ opened_by ss (tables_named (tables_from c n n 0) (names_at v at count)) → o.fine ≡ true
-      → BlockOpened c n (tables_named (tables_from c n n 0) (names_at v at count)) o.scope
-  block_opened o a b l e f = go (tables_named (tables_from c n n 0) (names_at v at count)) refl e
+  entry_says : (ts : List TabRef) → StartsAre c n tables ss → n ≤ 2080 → (1 ≤ count) × (count ≤ 4) → tables_named (tables_from c n n 0) (names_at v at count) ≡ all ts
+      → BlockOpened c n (all ts) (block_scope (put (replicate 4 0) 0 (places_of ss ts)) (length ts))
+  unfolding refs_of type_in info_in count_in block_scope
+  entry_says ts a b l x =
+      let r = refs_are c n tables ss a (names_at v at count) ts x in
+      let k = names_length (tables_from c n n 0) v at count ts x in
+      record {
+        found = refl;
+        opens = entry_opens c n tables ss a ts r (omega arith) (omega arith) b;
+        untyped = refl;
+        known = refl;
+        among = entry_among c n tables ss a ts r (omega arith) (omega arith) b;
+        counted = refl;
+      }
+
+  pub block_opened : (s : Scope) → StartsAre c n tables ss → n ≤ 2080 → (1 ≤ count) × (count ≤ 4) → fine s ≡ opened_by ss (tables_named (tables_from c n n 0) (names_at v at count))
+      → BlockOpened c n (tables_named (tables_from c n n 0) (names_at v at count)) s
+  unfolding opened_by
+  block_opened s a b l e = go (tables_named (tables_from c n n 0) (names_at v at count)) refl e
     where
-      go : (T : Tabs) → tables_named (tables_from c n n 0) (names_at v at count) ≡ T → o ≡ opened_by ss T → BlockOpened c n T o.scope
+      go : (T : Tabs) → tables_named (tables_from c n n 0) (names_at v at count) ≡ T → fine s ≡ opened_by ss T → BlockOpened c n T s
       go (all ts) x y =
-          let r = refs_are c n tables ss a (names_at v at count) ts x in
-          let k = names_length (tables_from c n n 0) v at count ts x in
-          let m = entry_counts c n tables ss a ts r (omega arith) (omega arith) b in
-          unfold opened_by opened_as refs_of in rw y (record {
-            found = refl;
-            opens = entry_opens c n tables ss a ts r (omega arith) (omega arith) b;
-            untyped = block_type _ (omega (arith, m));
-            known = block_info _ (omega (arith, m));
-            among = entry_among c n tables ss a ts r (omega arith) (omega arith) b;
-            counted = m;
-          })
-      go (missing p) x y = absurd (unfold opened_by missing_at in let w : false ≡ true = sym (ap (λ z. z.fine) y) ∙ f in let z : ◌≡◌ {A = ℕ} 0 1 = cc in omega arith)
+          let z : block_scope (put (replicate 4 0) 0 (places_of ss ts)) (length ts) ≡ s = cc in
+          subst (λ (u : Scope). BlockOpened c n (all ts) u) z (entry_says ts a b l x)
+      go (missing p) x y = absurd (let z : ◌≡◌ {A = ℕ} 0 1 = cc in omega arith)
 
-  module _ (o : Opened) (a : StartsAre c n tables ss) (b : n ≤ 2080) (l : (1 ≤ count) × (count ≤ 4)) (e : o ≡ opened_by ss (tables_named (tables_from c n n 0) (names_at v at count))) (f : o.fine ≡ true) where
-    pub block_found : tables_named (tables_from c n n 0) (names_at v at count) ≡ all (refs_of (tables_named (tables_from c n n 0) (names_at v at count)))
-    block_found = (block_opened o a b l e f).found
+  -- a refusal is 6, at the first TABLE record whose table is not in the catalogue
+  pub block_missing : (k p : ℕ) → at + count ≤ 65536 → refusal k p ≡ opened_by ss (tables_named (tables_from c n n 0) (names_at v at count))
+      → (k ≡ 6) × (tables_named (tables_from c n n 0) (names_at v at count) ≡ missing p)
+  block_missing k p l e = go (tables_named (tables_from c n n 0) (names_at v at count)) refl e
+    where
+      go : (T : Tabs) → tables_named (tables_from c n n 0) (names_at v at count) ≡ T → refusal k p ≡ opened_by ss T → (k ≡ 6) × (T ≡ missing p)
+      go (all ts) x y = absurd (unfold opened_by in let z : ◌≡◌ {A = ℕ} 0 1 = cc in omega arith)
+      go (missing q) x y =
+          let h = missing_first (tables_from c n n 0) v at count q x in
+          let f : k ≡ 6 = unfold opened_by in cc in
+          let g : p ≡ min q 65535 = unfold opened_by in cc in
+          let z : q ≡ p = omega arith in
+          (f, ap missing z)
 
-    pub block_opens : open_of c n o.scope ≡ opened (refs_of (tables_named (tables_from c n n 0) (names_at v at count)))
-    block_opens = (block_opened o a b l e f).opens
-
-    pub block_among : Among n o.scope
-    block_among = (block_opened o a b l e f).among
-
-    pub block_counted : count_in o.scope ≡ count
-    block_counted = (block_opened o a b l e f).counted ∙ names_length (tables_from c n n 0) v at count _ block_found
+  -- where the tables are there, the block is opened
+  pub block_fine : (ts : List TabRef) (x : Checked Scope) → tables_named (tables_from c n n 0) (names_at v at count) ≡ all ts → x ≡ opened_by ss (tables_named (tables_from c n n 0) (names_at v at count))
+      → x ≡ fine (block_scope (put (replicate 4 0) 0 (places_of ss ts)) (length ts))
+  unfolding opened_by
+  block_fine ts x e f = f ∙ rw e
 
   -- the number of each table is found again at its TABLE record
   pub number_again : (ts : List TabRef) (t : TabRef) (j p r : ℕ) → tables_named (tables_from c n n 0) (names_at v at count) ≡ all ts → j < count → nth ts j ≡ done t → p ≡ at + j

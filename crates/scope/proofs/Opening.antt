@@ -1,8 +1,7 @@
 -- Entries made: a local's, and a block's as its tables are looked up one after the other; one law for each place of the code.
 -- Assumes nothing.
-use Prim.Native.Nat.{ℕ, suc, ◌+◌, ◌-◌, ◌*◌, ◌%◌, ◌<◌, ◌≤◌}
+use Prim.Native.Nat.{ℕ, suc, ◌+◌, ◌-◌, ◌<◌, ◌≤◌, min}
 use mathlib.Core.Path.{◌≡◌, refl, sym, ◌∙◌}
-use mathlib.Core.Bool.{true, false}
 use mathlib.Core.List.{List, [], ◌∷◌}
 use native.Mathlib.Omega.{arith}
 use native.Mathlib.Numerals.{add-one}
@@ -10,44 +9,26 @@ use borrow.Author.Rules.{rules}
 use borrow.Author.Tests.{lt-ltb, le-ltb}
 use lib.ListN.{get_or, length, set}
 use Rattle.word.specs.Buffer.{put}
-use Rattle.class.specs.Info.{bound_of}
-use Rattle.class.specs.declared.Info.{Info}
-use Rattle.class.specs.declared.Info.TheVariants.{Fixed}
+use Rattle.word.specs.Refusal.{Checked, fine, refusal}
 use Rattle.cell.specs.Res.{Res}
-use Rattle.cell.specs.declared.Type.{«Type» as Ty}
-use Rattle.cell.specs.declared.Type.TheVariants as T
 use Rattle.catalogue.specs.Tables.{Table, TabRef, table_at, tables_from, table_named}
 use Rattle.catalogue.specs.Starts.{ref_by}
 use Rattle.view.specs.Record.{node_at}
 use Rattle.view.specs.Parse.{name_of, names_at}
 use Rattle.view.specs.declared.Node.{Node}
-use Rattle.scope.specs.Words.{shape_of, number_of, words_of}
 use Rattle.scope.specs.Blocks.{Tabs, all, missing, before, found_at, tables_named}
-use Rattle.scope.specs.Entry.{local_scope, block_scope, missing_at, opened_as, places_of, opened_by}
+use Rattle.scope.specs.Entry.{block_scope, places_of, opened_by}
 use Rattle.scope.specs.declared.Scope.{Scope}
-use Rattle.scope.specs.declared.Opened.{Opened}
-
--- the structs that the code makes
-pub local_made : (m : ℕ) (t : Ty) (i : Info) (x y k : ℕ) → x ≡ shape_of t i → y ≡ number_of t → k ≡ bound_of i → record { words = m ∷ x ∷ k ∷ y ∷ [] } ≡ local_scope m t i
-unfolding local_scope words_of
-local_made m t i x y k e f g = rw (e, f, g)
-
-pub missing_made : (p : ℕ) (s : Scope) → s ≡ local_scope 0 T.Null (Fixed 0) → record { fine = false; place = p; scope = s } ≡ missing_at p
-unfolding missing_at
-missing_made p s e = rw e
-
-pub opened_made : (ws : List ℕ) (k : ℕ) → record { fine = true; place = 0; scope = record { words = set ws 3 (get_or ws 3 0 % 4096 + 4096 * k) } } ≡ opened_as ws k
-unfolding opened_as block_scope
-opened_made ws k = refl
+use Rattle.scope.specs.declared.Scope.TheVariants as S
 
 -- the table of a TABLE record
 pub number_found : (cat : List Table) (v : List ℕ) (p name : ℕ) (node : Node) (x : Res TabRef) → node ≡ node_at v p → name ≡ name_of node → table_named name cat ≡ x → table_named (name_of (node_at v p)) cat ≡ x
 number_found cat v p name node x e f g = rw (← e, ← f) g
 
 -- a block of which j tables are looked up, their records in ws; what is left of its tables
-unfoldable pub open_from : List ℕ → List ℕ → ℕ → Tabs → Opened
-open_from ss ws j (all ts) = opened_as (put ws j (places_of ss ts)) (j + length ts)
-open_from ss ws j (missing p) = missing_at p
+unfoldable pub open_from : List ℕ → List ℕ → ℕ → Tabs → Checked Scope
+open_from ss ws j (all ts) = fine (block_scope (put ws j (places_of ss ts)) (j + length ts))
+open_from ss ws j (missing p) = refusal 6 (min p 65535)
 
 module _ (c : List ℕ) (n : ℕ) (ss : List ℕ) (tables : ℕ) (v : List ℕ) (at count : ℕ) where
   unfoldable pub tabs_left : ℕ → Tabs
@@ -73,17 +54,17 @@ module _ (c : List ℕ) (n : ℕ) (ss : List ℕ) (tables : ℕ) (v : List ℕ) 
   one_more ws j t (all ts) = let e : j + suc (length ts) ≡ suc j + length ts = omega arith in rw (add-one j, e)
   one_more ws j t (missing p) = refl
 
-  module _ (ws : List ℕ) (j k : ℕ) (X : Opened) (x : X ≡ open_from ss ws j (tabs_left j)) (h : j < count) (g : (table_named (name_of (node_at v (at + j))) (tables_from c n n 0) ≡ ref_by c n ss tables k) × (k ≤ tables)) where
-    pub open_missing : (r : Opened) → tables ≤ k → r ≡ missing_at (at + j) → r ≡ X
+  module _ (ws : List ℕ) (j k : ℕ) (X : Checked Scope) (x : X ≡ open_from ss ws j (tabs_left j)) (h : j < count) (g : (table_named (name_of (node_at v (at + j))) (tables_from c n n 0) ≡ ref_by c n ss tables k) × (k ≤ tables)) where
+    pub open_missing : tables ≤ k → refusal 6 (min (at + j) 65535) ≡ X
     unfolding found_at ref_by open_from
-    open_missing r l y = y ∙ sym (x ∙ rw (tabs_next j h, g.0, le-ltb k tables l))
+    open_missing l = sym (x ∙ rw (tabs_next j h, g.0, le-ltb k tables l))
 
     pub open_again : k < tables → X ≡ open_from ss (set ws j (get_or ss k 0)) (j + 1) (tabs_left (j + 1))
     unfolding found_at ref_by
     open_again l = x ∙ rw (tabs_next j h, g.0, lt-ltb k tables l) (one_more ws j (record { num = k; table = table_at c n (get_or ss k 0) }) (tabs_left (j + 1)))
 
-  pub open_done : (ws : List ℕ) (j : ℕ) (X r : Opened) → X ≡ open_from ss ws j (tabs_left j) → count ≤ j → j ≤ count → r ≡ opened_as ws count → r ≡ X
-  unfolding open_from tabs_left names_at tables_named put
-  open_done ws j X r x h l y = let e : count - j ≡ 0 = omega arith in let f : j + 0 ≡ count = omega arith in y ∙ sym (x ∙ rw (e, f))
+  pub open_done : (ws : List ℕ) (j : ℕ) (X : Checked Scope) → X ≡ open_from ss ws j (tabs_left j) → count ≤ j → j ≤ count → fine (S.Block (record { tables = ws; count = count })) ≡ X
+  unfolding open_from tabs_left names_at tables_named put block_scope
+  open_done ws j X x h l = let e : count - j ≡ 0 = omega arith in let f : j + 0 ≡ count = omega arith in sym (x ∙ rw (e, f))
 
-pub ruleset opens = (local_made, missing_made, opened_made, number_found, open_begin, open_missing, open_again, open_done, rules)
+pub ruleset opens = (number_found, open_begin, open_missing, open_again, open_done, rules)

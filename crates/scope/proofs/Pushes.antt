@@ -11,10 +11,9 @@ use Rattle.class.specs.declared.Info.{Info}
 use Rattle.class.specs.declared.Info.TheVariants.{Fixed}
 use Rattle.cell.specs.declared.Type.{«Type» as Ty}
 use Rattle.scope.specs.Scopes.{local}
-use Rattle.scope.specs.Words.{info_in}
 use Rattle.scope.specs.Table.{open_of, blank, scopes_of, infos_of}
 use Rattle.scope.specs.Blocks.{Tabs, refs_of, opened}
-use Rattle.scope.specs.Entry.{local_scope}
+use Rattle.scope.specs.Entry.{local_scope, info_in}
 use Rattle.scope.specs.declared.Scope.{Scope}
 use Rattle.scope.proofs.Locals.{local_info, local_opens}
 use Rattle.scope.proofs.Named.{BlockOpened}

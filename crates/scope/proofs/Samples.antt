@@ -6,15 +6,14 @@ use mathlib.Core.List.{List, [], ◌∷◌, ◌++◌, map}
 use Rattle.word.specs.Bytes.{le16}
 use Rattle.word.specs.Header.{drc, header}
 use Rattle.word.specs.Record.{rec_bytes}
-use Rattle.class.specs.Info.{info_by, bound_of}
+use Rattle.class.specs.Info.{info_by}
 use Rattle.class.specs.declared.Info.TheVariants.{Fixed, Bound}
-use Rattle.cell.specs.Types.{type_by, kind_of, digits_of, scale_of, format_of}
+use Rattle.cell.specs.Types.{type_by}
 use Rattle.cell.specs.declared.Type.TheVariants as T
 use Rattle.catalogue.specs.Tables.{column_at, cols_from, table_at}
 use Rattle.scope.specs.Scopes.{only_of, in_cols, in_table, in_tabs, in_scope, nearest, find}
 use Rattle.scope.specs.Table.{tabs_at, open_of, scopes_of, infos_of, found_of}
-use Rattle.scope.specs.Words.{count_in, table_in, raised, lowered, mark_of, kind_scale, shape_of, number_of, words_of, type_from, name_in, type_in, info_in}
-use Rattle.scope.specs.Entry.{local_scope, block_scope}
+use Rattle.scope.specs.Entry.{table_in, info_in, local_scope, block_scope}
 use Rattle.scope.specs.declared.Scope.{Scope}
 use Rattle.scope.specs.declared.Found.{Found}
 use Rattle.scope.specs.declared.Found.TheVariants as F
@@ -91,5 +90,5 @@ pub names_found : map answer (
     ∷ F.None
     ∷ F.None
     ∷ []
-unfolding header le16 rec_bytes type_by info_by column_at cols_from table_at only_of in_cols in_table in_tabs in_scope nearest find tabs_at open_of scopes_of infos_of found_of local_scope block_scope words_of shape_of kind_scale mark_of number_of raised lowered kind_of digits_of scale_of format_of bound_of type_from count_in table_in name_in type_in info_in
+unfolding header le16 rec_bytes type_by info_by column_at cols_from table_at only_of in_cols in_table in_tabs in_scope nearest find tabs_at open_of scopes_of infos_of found_of local_scope block_scope table_in info_in
 names_found = refl

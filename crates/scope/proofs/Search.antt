@@ -1,30 +1,35 @@
 -- What an entry has for a name, and the search from the innermost scope outward: one law for each place of the code.
 -- Assumes nothing.
-use Prim.Native.Nat.{ℕ, zero, suc, ◌+◌, ◌-◌, ◌*◌, ◌/◌, ◌%◌, ◌<◌, ◌≤◌, min}
+use Prim.Native.Nat.{ℕ, zero, suc, ◌+◌, ◌-◌, ◌*◌, ◌<◌, ◌≤◌, min}
 use mathlib.Core.Path.{◌≡◌, refl, sym, ap, ◌∙◌}
-use mathlib.Core.Bool.{true, false, ◌&&◌}
-use mathlib.Core.List.{List, ◌∷◌, ◌++◌}
+use mathlib.Core.List.{List, [], ◌∷◌, ◌++◌}
 use native.Mathlib.Omega.{arith}
 use borrow.Author.Rules.{rules}
-use borrow.Author.Tests.{ne_eqb}
+use borrow.Author.Tests.{eq-eqb, ne_eqb}
 use lib.ListN.{length, get_or}
-use lib.Dec.{eqb}
 use Rattle.word.specs.Record.{op_at, b_at}
 use Rattle.class.specs.Info.{info_by}
 use Rattle.class.specs.declared.Info.{Info}
 use Rattle.class.specs.declared.Info.TheVariants.{Fixed}
-use Rattle.cell.specs.declared.Type.{«Type» as Ty}
 use Rattle.catalogue.specs.Tables.{Table, Column, column_at, table_at}
 use Rattle.scope.specs.Scopes.{Hit, column, bound, Only, none, one, more, only_of, in_table, in_tabs, in_scope, nearest, find}
-use Rattle.scope.specs.Words.{count_in, table_in, type_from, name_in, type_in, info_in}
+use Rattle.scope.specs.Entry.{table_in, info_in}
 use Rattle.scope.specs.Table.{tabs_at, open_of, blank, scopes_of, infos_of, found_of}
 use Rattle.scope.specs.Match.{found_in, only_by, MatchIs}
+use Rattle.scope.specs.declared.Block.{Block}
+use Rattle.scope.specs.declared.Local.{Local}
 use Rattle.scope.specs.declared.Scope.{Scope}
+use Rattle.scope.specs.declared.Scope.TheVariants as S
 use Rattle.scope.specs.declared.Found.{Found}
 use Rattle.scope.specs.declared.Found.TheVariants as F
 use Rattle.scope.specs.declared.Matches.{Matches}
 use Rattle.scope.specs.declared.Matches.TheVariants as N
-use Rattle.scope.proofs.Hits.{both, only_both, same_scope, any_class}
+use Rattle.scope.proofs.Hits.{both, only_both, same_scope}
+
+-- the record of a block's table
+pub table_is : (b : Block) (j t : ℕ) → t ≡ get_or b.tables j 0 → t ≡ table_in (S.Block b) j
+unfolding table_in
+table_is b j t e = e
 
 -- the tables of a block: what is left of them
 module _ (c : List ℕ) (n : ℕ) (s : Scope) (count name q : ℕ) where
@@ -129,23 +134,26 @@ module _ (c : List ℕ) (n : ℕ) (s : Scope) (count name q a : ℕ) where
       pub column_room : (i : ℕ) → r ≡ N.One i → (8 + 8 * n ≤ length c) × (n ≤ 2080) → ((t < i) × (i ≤ 2080)) × (8 + 8 * i + 8 ≤ length c)
       column_room i e l = let k = m.past i e in ((k.0, omega arith), omega arith)
 
--- one entry
-module _ (c : List ℕ) (n : ℕ) (s : Scope) (name q a : ℕ) where
-  pub local_yes : (k : ℕ) (t : Ty) (i : Info) → (k ≡ count_in s) × (k < 16) → k ≡ 0 → (eqb q 0 && eqb (get_or s.words 0 0) name) ≡ true → t ≡ type_from (get_or s.words 1 0) (get_or s.words 3 0) → i ≡ info_by (get_or s.words 1 0 / 8 % 2) (get_or s.words 2 0)
-      → F.Local a t i ≡ found_in (info_in s) (only_of (in_scope name q a (open_of c n s)))
-  unfolding open_of name_in type_in info_in in_scope found_in only_of
-  local_yes k t i d e f g h = rw (← d.0, e, f, g, h)
+-- one entry, a local's
+module _ (c : List ℕ) (n : ℕ) (l : Local) (name q a : ℕ) where
+  pub local_yes : q ≡ 0 → l.name ≡ name → F.Local a l.ty l.info ≡ found_in (info_in (S.Local l)) (only_of (in_scope name q a (open_of c n (S.Local l))))
+  unfolding open_of info_in in_scope found_in only_of
+  local_yes e f = rw (eq-eqb q 0 e, eq-eqb l.name name f)
 
-  pub local_no : (k : ℕ) → (k ≡ count_in s) × (k < 16) → k ≡ 0 → (eqb q 0 && eqb (get_or s.words 0 0) name) ≡ false → F.None ≡ found_in (info_in s) (only_of (in_scope name q a (open_of c n s)))
-  unfolding open_of name_in in_scope found_in only_of
-  local_no k d e f = rw (← d.0, e, f)
+  pub local_other : q ≡ 0 → (l.name ≡ name → ⊥) → F.None ≡ found_in (info_in (S.Local l)) (only_of (in_scope name q a (open_of c n (S.Local l))))
+  unfolding open_of info_in in_scope found_in only_of
+  local_other e f = rw (eq-eqb q 0 e, ne_eqb l.name name f)
 
-  pub block_whole : (k : ℕ) (r : Found) → (k ≡ count_in s) × (k < 16) → (k ≡ 0 → ⊥) → r ≡ found_in (Fixed 0) (only_of (in_tabs name q a 0 (tabs_at c n s 0 (min (count_in s) 4))))
-      → r ≡ found_in (info_in s) (only_of (in_scope name q a (open_of c n s)))
-  unfolding open_of in_scope
-  block_whole k r d e f = f ∙ any_class (Fixed 0) (info_in s) name q a 0 (tabs_at c n s 0 (min (count_in s) 4)) ∙ rw (ne_eqb (count_in s) 0 (λ z. e (d.0 ∙ z)))
+  pub local_qualified : (q ≡ 0 → ⊥) → F.None ≡ found_in (info_in (S.Local l)) (only_of (in_scope name q a (open_of c n (S.Local l))))
+  unfolding open_of info_in in_scope found_in only_of
+  local_qualified f = rw (ne_eqb q 0 f)
 
-pub ruleset entries = (tabs_begin, tabs_none, tabs_one, tabs_two, tabs_more, tabs_done, column_room, local_yes, local_no, block_whole, rules)
+pub block_whole : (c : List ℕ) (n : ℕ) (b : Block) (name q a : ℕ) (r : Found) → r ≡ found_in (Fixed 0) (only_of (in_tabs name q a 0 (tabs_at c n (S.Block b) 0 (min b.count 4))))
+    → r ≡ found_in (info_in (S.Block b)) (only_of (in_scope name q a (open_of c n (S.Block b))))
+unfolding open_of info_in in_scope
+block_whole c n b name q a r e = e
+
+pub ruleset entries = (tabs_begin, tabs_none, tabs_one, tabs_two, tabs_more, tabs_done, column_room, rules)
 
 -- from the innermost outward
 near_some : (is : List Info) (x y : Only Hit) → (found_of is x ≡ F.None → ⊥) → found_of is (nearest x y) ≡ found_of is x
@@ -198,3 +206,9 @@ module _ (t : List Scope) where
       pub find_none : d ≡ 0 → F.None ≡ X
       unfolding scopes_left find scopes_of found_of
       find_none k = sym (e ∙ rw k)
+
+-- an entry within a table is read whatever stands for one past its end
+pub entry_within : (t : List Scope) (j : ℕ) (a b : Scope) → j < length t → get_or t j a ≡ get_or t j b
+entry_within [] j a b l = absurd (omega (arith, l))
+entry_within (s ∷ t) zero a b l = refl
+entry_within (s ∷ t) (suc j) a b l = entry_within t j a b (omega (arith, l))

@@ -1,41 +1,53 @@
--- Entries of the table of open scopes: a local's, and a block's; and what is asked of a block's tables.
+-- Entries of the table of open scopes: what one says, how a local's and a block's are made, and what is asked of a block's tables.
 -- Assumes nothing.
-use Rattle.std.specs.Prelude.{ℕ, ◌+◌, ◌*◌, ◌%◌, ◌<◌, true, false, List, [], map, get_or, length, replicate, set}
+use Rattle.std.specs.Prelude.{ℕ, ◌<◌, min, List, [], map, get_or, length, replicate}
 use Rattle.word.specs.Buffer.{put}
+use Rattle.word.specs.Refusal.{Checked, fine, refusal}
 use Rattle.class.specs.declared.Info.{Info}
 use Rattle.class.specs.declared.Info.TheVariants.{Fixed}
 use Rattle.cell.specs.declared.Type.{«Type» as Ty}
 use Rattle.cell.specs.declared.Type.TheVariants as T
 use Rattle.catalogue.specs.Tables.{Table, TabRef}
 use Rattle.scope.specs.Scopes.{Open, block, local}
-use Rattle.scope.specs.Words.{table_in, words_of}
 use Rattle.scope.specs.Blocks.{Tabs, all, missing}
 use Rattle.scope.specs.declared.Scope.{Scope}
-use Rattle.scope.specs.declared.Opened.{Opened}
+use Rattle.scope.specs.declared.Scope.TheVariants as S
+
+-- HOW MANY TABLES; a local has none
+unfoldable pub count_in : Scope → ℕ
+count_in (S.Block b) = b.count
+count_in (S.Local l) = 0
+
+-- the record of table j
+unfoldable pub table_in : Scope → ℕ → ℕ
+table_in (S.Block b) j = get_or b.tables j 0
+table_in (S.Local l) j = 0
+
+-- what an entry says of a local; a block has no type or class of its own
+unfoldable pub type_in : Scope → Ty
+type_in (S.Block b) = T.Null
+type_in (S.Local l) = l.ty
+
+unfoldable pub info_in : Scope → Info
+info_in (S.Block b) = Fixed 0
+info_in (S.Local l) = l.info
 
 -- a local's entry
 unfoldable pub local_scope : ℕ → Ty → Info → Scope
-local_scope m t i = record { words = words_of m t i }
+local_scope m t i = S.Local (record { name = m; ty = t; info = i })
 
--- the entry of so many tables, by the numbers of their records; how many they are stands above the last
+-- the entry of so many tables, by the numbers of their records
 unfoldable pub block_scope : List ℕ → ℕ → Scope
-block_scope ws k = record { words = set ws 3 (get_or ws 3 0 % 4096 + 4096 * k) }
-
--- the code's answer: a block opened, or the place of the first table that is not in the catalogue
-unfoldable pub opened_as : List ℕ → ℕ → Opened
-opened_as ws k = record { fine = true; place = 0; scope = block_scope ws k }
-
-unfoldable pub missing_at : ℕ → Opened
-missing_at p = record { fine = false; place = p; scope = local_scope 0 T.Null (Fixed 0) }
+block_scope ws k = S.Block (record { tables = ws; count = k })
 
 -- the numbers of the tables' records, where ss has that of each table of the catalogue
 abbrev pub places_of : List ℕ → List TabRef → List ℕ
 places_of ss ts = map (λ t. get_or ss t.num 0) ts
 
--- THE ENTRY of a block's tables; zeros stand after them
-unfoldable pub opened_by : List ℕ → Tabs → Opened
-opened_by ss (all ts) = opened_as (put (replicate 4 0) 0 (places_of ss ts)) (length ts)
-opened_by ss (missing p) = missing_at p
+-- THE ENTRY of a block's tables; zeros stand after them. Or 6 at the first TABLE record whose table is not in the catalogue: a place is held in 16 bits, and a view has fewer records
+unfoldable pub opened_by : List ℕ → Tabs → Checked Scope
+opened_by ss (all ts) = fine (block_scope (put (replicate 4 0) 0 (places_of ss ts)) (length ts))
+opened_by ss (missing p) = refusal 6 (min p 65535)
 
 -- a block's tables; a local has none
 unfoldable pub tables_in : Open → List Table

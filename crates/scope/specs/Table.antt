@@ -1,12 +1,14 @@
 -- The table of open scopes: what its entries say. The innermost scope is the last entry; over a catalogue c of n records.
 -- Assumes nothing.
-use Rattle.std.specs.Prelude.{ℕ, zero, suc, ◌+◌, min, cond, List, [], ◌∷◌, get_or, eqb}
+use Rattle.std.specs.Prelude.{ℕ, zero, suc, ◌+◌, min, List, [], ◌∷◌, get_or}
 use Rattle.class.specs.declared.Info.{Info}
 use Rattle.class.specs.declared.Info.TheVariants.{Fixed}
+use Rattle.cell.specs.declared.Type.TheVariants as T
 use Rattle.catalogue.specs.Tables.{Table, table_at}
 use Rattle.scope.specs.Scopes.{Open, block, local, Hit, column, bound, Only, none, one, more}
-use Rattle.scope.specs.Words.{count_in, table_in, name_in, type_in, info_in}
+use Rattle.scope.specs.Entry.{table_in, info_in, local_scope}
 use Rattle.scope.specs.declared.Scope.{Scope}
+use Rattle.scope.specs.declared.Scope.TheVariants as S
 use Rattle.scope.specs.declared.Found.{Found}
 use Rattle.scope.specs.declared.Found.TheVariants as F
 
@@ -17,11 +19,12 @@ tabs_at c n s i (suc k) = table_at c n (table_in s i) ∷ tabs_at c n s (i + 1) 
 
 -- what an entry says
 unfoldable pub open_of : List ℕ → ℕ → Scope → Open
-open_of c n s = cond (eqb (count_in s) 0) (local (name_in s) (type_in s)) (block (tabs_at c n s 0 (min (count_in s) 4)))
+open_of c n (S.Block b) = block (tabs_at c n (S.Block b) 0 (min b.count 4))
+open_of c n (S.Local l) = local l.name l.ty
 
 -- no entry
 abbrev pub blank : Scope
-blank = record { words = 0 ∷ 0 ∷ 0 ∷ 0 ∷ [] }
+blank = local_scope 0 T.Null (Fixed 0)
 
 -- the open scopes, the innermost first: d entries of the table
 unfoldable pub scopes_of : List ℕ → ℕ → List Scope → ℕ → List Open

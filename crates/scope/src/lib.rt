@@ -1,11 +1,8 @@
-// The open scopes in a small table, one entry for each block and each LET body: push an entry, and find a name.
-// The definitions are in specs/: Scopes has the rule of names, Table what an entry says, Blocks a block's tables.
+//! The open scopes in a small table, one entry for each block and each LET body: push an entry, and find a name.
+//! The definitions are in specs/: Scopes has the rule of names, Entry an entry, Table what the entries of a table say, Blocks a block's tables.
 #![tactic(auto)]
 
 mod entry;
-mod held;
-mod lent;
-mod words;
 
 ghost use Rattle.std.specs.Prelude.{◌≡◌, ◌+◌, ◌-◌, ◌*◌, ◌≤◌, ◌<◌, length, min, set};
 ghost use Rattle.class.specs.declared.Info.TheVariants.{Fixed};
@@ -13,39 +10,56 @@ ghost use Rattle.class.specs.Info.{info_by};
 ghost use Rattle.word.specs.Record.{op_at, b_at};
 ghost use Rattle.catalogue.specs.Tables.{column_at};
 ghost use Rattle.scope.specs.Scopes.{only_of, in_tabs, in_scope, find};
+ghost use Rattle.scope.specs.Entry.{info_in};
 ghost use Rattle.scope.specs.Table.{tabs_at, open_of, scopes_of, infos_of, found_of};
 ghost use Rattle.scope.specs.Match.{found_in, FirstIs, MatchIs};
-ghost use Rattle.scope.specs.Words.{count_in, info_in};
+ghost use Rattle.scope.specs.declared.Scope.TheVariants as S;
 
-pub use entry::{block_class, local_scope, open_block, row_info, table_class_at, table_number};
-pub use held::{find_in, push_in, words_of};
-pub use lent::{look_up, push};
-pub use words::{count_in, tables_in};
-use words::{info_from, table_in, type_from};
+pub use entry::{
+    block_class, local_scope, open_block, row_info, table_class_at, table_number, tables_in,
+};
 
-// One entry, eight bytes: a block's tables, 1 to 4, by the numbers of their records in the catalogue; or, where there are none,
-// a local: its name, its type and what is known of its class, as specs/Words has them.
-#[derive(Clone, Copy)]
-pub struct Scope {
-    pub words: [u16; 4],
+/// A block's tables, by the numbers of their records in the catalogue: the first `count` of four, and zeros after them.
+#[derive(Clone, Copy, PartialEq, Eq, Debug)]
+pub struct Block {
+    pub tables: [u16; 4],
+    pub count: u8,
 }
 
-// What a name finds. A column: scopes outward, table in block, column, its type, what is known of its cells' class and of its row's.
-// A local: scopes outward, its type, what is known of its class.
-#[derive(Clone, Copy)]
+/// A LET's local: its name, its type, and what is known of its class.
+#[derive(Clone, Copy, PartialEq, Eq, Debug)]
+pub struct Local {
+    pub name: u16,
+    pub ty: cell::Type,
+    pub info: class::Info,
+}
+
+/// An open scope: a block's, or that of a LET body.
+#[derive(Clone, Copy, PartialEq, Eq, Debug)]
+pub enum Scope {
+    Block(Block),
+    Local(Local),
+}
+
+/// What a name finds. A column: how many scopes outward, which table of the block, which column of the table, its type,
+/// what is known of the class of its cells, and of that of its table's rows. A local: how many scopes outward, its type, what is known of its class.
+#[derive(Clone, Copy, PartialEq, Eq, Debug)]
 pub enum Found {
-    Column(u16, u16, u16, cell::Type, class::Info, class::Info),
-    Local(u16, cell::Type, class::Info),
+    Column {
+        outward: u16,
+        table: u16,
+        column: u16,
+        ty: cell::Type,
+        cell: class::Info,
+        row: class::Info,
+    },
+    Local {
+        outward: u16,
+        ty: cell::Type,
+        info: class::Info,
+    },
     None,
     Ambiguous,
-}
-
-// A block opened: its entry, where its tables are all in the catalogue; else the place of the first TABLE record whose table isn't.
-#[derive(Drop)]
-pub struct Opened {
-    pub fine: bool,
-    pub place: usize,
-    pub scope: Scope,
 }
 
 // The columns of a table that have a name: none, the one column's record, or several.
@@ -63,10 +77,11 @@ fn first_named(cat: &[u8], n: usize, i: usize, name: u16) -> Option<usize>
     ensures { FirstIs cat.now n i name result }
 {
     for j in i..n {
-        if word::kind_at(cat, j) != 2 {
+        let column = word::record_at(cat, j);
+        if column.kind != 2 {
             return None;
         }
-        if word::a_at(cat, j) == name {
+        if column.a == name {
             return Some(j);
         }
     }
@@ -96,38 +111,42 @@ fn in_table(cat: &[u8], n: usize, t: usize, name: u16, q: u16) -> Matches
     if n <= t {
         return Matches::None;
     }
-    if q == 0 || word::a_at(cat, t) == q {
+    let own = word::record_at(cat, t).a;
+    if q == 0 || own == q {
         in_cols(cat, n, t, name)
     } else {
         Matches::None
     }
 }
 
-// The match of the column of record i, which is one of the table of record t: a scopes outward, table b of its block.
-fn column_at(cat: &[u8], t: usize, i: usize, a: u16, b: u16) -> Found
+// The match of the column of record i, which is one of the table of record t, number `table` of its block.
+#[tactic(auto, unfolding(catalogue::specs::Tables::column_at))]
+fn column_at(cat: &[u8], t: usize, i: usize, outward: u16, table: u16) -> Found
     requires { ((t < i) × (i ≤ 2080)) × (8 + 8 * i + 8 ≤ length cat.now) }
-    ensures { result ≡ Found.Column a b (i - (t + 1)) (column_at cat.now i).ty (column_at cat.now i).info (info_by (op_at cat.now t) (b_at cat.now t)) }
+    ensures { result ≡ Found.Column outward table (i - (t + 1)) (column_at cat.now i).ty (column_at cat.now i).info (info_by (op_at cat.now t) (b_at cat.now t)) }
 {
-    let ty = catalogue::type_at(cat, i);
-    let info = catalogue::info_at(cat, i);
-    let row = catalogue::info_at(cat, t);
-    let first = t + 1;
-    let c = (i - first) as u16;
-    Found::Column(a, b, c, ty, info, row)
+    Found::Column {
+        outward,
+        table,
+        column: (i - (t + 1)) as u16,
+        ty: catalogue::type_at(cat, i),
+        cell: catalogue::info_at(cat, i),
+        row: catalogue::info_at(cat, t),
+    }
 }
 
 // The tables of a block, by the numbers of their records.
-fn in_block(s: Scope, cat: &[u8], n: usize, name: u16, q: u16, a: u16) -> Found
+fn in_block(block: &Block, cat: &[u8], n: usize, name: u16, q: u16, outward: u16) -> Found
     requires { (8 + 8 * n ≤ length cat.now) × (n ≤ 2080) }
-    ensures { result ≡ found_in (Fixed 0) (only_of (in_tabs name q a 0 (tabs_at cat.now n s 0 (min (count_in s) 4)))) }
+    ensures { result ≡ found_in (Fixed 0) (only_of (in_tabs name q outward 0 (tabs_at cat.now n (S.Block block.now) 0 (min block.now.count 4)))) }
 {
     let mut found = Found::None;
-    for j in 0..tables_in(s) {
-        let t = table_in(s, j);
+    for j in 0..usize::from(block.count.min(4)) {
+        let t = usize::from(block.tables[j]);
         match in_table(cat, n, t, name, q) {
             Matches::None => {}
             Matches::One(i) => match found {
-                Found::None => found = column_at(cat, t, i, a, j as u16),
+                Found::None => found = column_at(cat, t, i, outward, j as u16),
                 _ => return Found::Ambiguous,
             },
             Matches::Several => return Found::Ambiguous,
@@ -137,39 +156,56 @@ fn in_block(s: Scope, cat: &[u8], n: usize, name: u16, q: u16, a: u16) -> Found
 }
 
 // What one entry has for a name.
-fn in_scope(s: Scope, cat: &[u8], n: usize, name: u16, q: u16, a: u16) -> Found
+fn in_scope(scope: &Scope, cat: &[u8], n: usize, name: u16, q: u16, outward: u16) -> Found
     requires { (8 + 8 * n ≤ length cat.now) × (n ≤ 2080) }
-    ensures { result ≡ found_in (info_in s) (only_of (in_scope name q a (open_of cat.now n s))) }
+    ensures { result ≡ found_in (info_in scope.now) (only_of (in_scope name q outward (open_of cat.now n scope.now))) }
 {
-    let count = count_in(s);
-    if count == 0 {
-        let words = s.words;
-        let own = words[0];
-        if (q == 0) & (own == name) {
-            let ty = type_from(words[1], words[3]);
-            let info = info_from(words[1], words[2]);
-            return Found::Local(a, ty, info);
+    match scope {
+        Scope::Block(block) => in_block(block, cat, n, name, q, outward),
+        Scope::Local(local) => {
+            if q == 0 && local.name == name {
+                Found::Local {
+                    outward,
+                    ty: local.ty,
+                    info: local.info,
+                }
+            } else {
+                Found::None
+            }
         }
-        return Found::None;
     }
-    in_block(s, cat, n, name, q, a)
 }
 
-// The table with one more scope open: it is lent to `push` for one call.
-pub fn pushed(t: [Scope; 16], depth: usize, s: Scope) -> [Scope; 16]
+/// One more scope open: its entry stands at place depth.
+pub fn push(scopes: &mut [Scope], depth: usize, scope: Scope)
+    requires { depth < length scopes.old }
+    ensures { scopes.new ≡ set scopes.old depth scope }
+{
+    scopes[depth] = scope;
+}
+
+/// The table with one more scope open.
+pub fn pushed(t: [Scope; 16], depth: usize, scope: Scope) -> [Scope; 16]
     requires { depth < 16 }
-    ensures { result ≡ set t depth s }
+    ensures { result ≡ set t depth scope }
 {
     let mut u = t;
-    push(&mut u, depth, s);
+    push(&mut u, depth, scope);
     u
 }
 
-// The one match in the nearest scope that has any: the table is lent to `look_up` for one call.
-pub fn find(t: [Scope; 16], cat: &[u8], n: usize, depth: usize, name: u16, q: u16) -> Found
+/// The one match in the nearest of the first depth scopes that has any, from the innermost outward; a name is bare where q is 0.
+pub fn find(scopes: &[Scope], cat: &[u8], n: usize, depth: usize, name: u16, q: u16) -> Found
     requires n_in_bounds { (8 + 8 * n ≤ length cat.now) × (n ≤ 2080) }
-    requires depth_bound { depth ≤ 16 }
-    ensures { result ≡ found_of (infos_of t depth) (find name q 0 (scopes_of cat.now n t depth)) }
+    requires depth_bound { (depth ≤ length scopes.now) × (depth ≤ 16) }
+    ensures { result ≡ found_of (infos_of scopes.now depth) (find name q 0 (scopes_of cat.now n scopes.now depth)) }
 {
-    look_up(&t, cat, n, depth, name, q)
+    for outward in 0..depth {
+        let scope = &scopes[depth - outward - 1];
+        match in_scope(scope, cat, n, name, q, outward as u16) {
+            Found::None => {}
+            found => return found,
+        }
+    }
+    Found::None
 }

@@ -1,6 +1,6 @@
 -- `scope::entry::block_class` meets its contract. The invariant: the lub of the tables from number j on.
 -- Assumes nothing.
-use Rattle.scope.proofs.Block.{blocks}
+use Rattle.scope.proofs.Blocks.{blocks}
 use Rattle.scope.proofs.entry.block_class.Goals as goal
 
 pub loop-j-init : goal.loop-j-init

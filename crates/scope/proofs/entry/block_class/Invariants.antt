@@ -1,9 +1,9 @@
 -- `scope::entry::block_class` meets its contract. The invariant: the lub of the tables from number j on.
 -- Assumes nothing.
-use Rattle.scope.proofs.Block.{lub_left}
+use Rattle.scope.proofs.Blocks.{lub_left}
 use Prim.Native.Nat.{◌≤◌, min}
 use mathlib.Core.Path.{◌≡◌}
-use Rattle.scope.specs.Words.{count_in}
+use Rattle.scope.specs.Entry.{count_in}
 use Rattle.scope.proofs.entry.block_class.Given as goal
 
 abbrev pub invariant-loop-j : goal.invariant-loop-j

@@ -1,13 +1,13 @@
--- `scope::look_up` meets its contract: what is left to look in, from here, is what the whole look-up is.
+-- `scope::find` meets its contract: what is left to look in, from here, is what the whole look-up is.
 -- Assumes nothing.
 use Prim.Native.Nat.{◌-◌, ◌+◌, ◌<◌}
 use mathlib.Core.Path.{◌≡◌}
 use native.Mathlib.Omega.{arith}
 use lib.ListN.{length}
 use Rattle.scope.specs.Table.{blank}
-use Rattle.scope.proofs.Wording.{entry_within}
+use Rattle.scope.proofs.Search.{entry_within}
 use Rattle.scope.proofs.Search.{find_begin, find_here, find_again, find_none}
-use Rattle.scope.proofs.lent.look_up.Goals as goal
+use Rattle.scope.proofs.find.Goals as goal
 
 pub loop-outward-init : goal.loop-outward-init
 loop-outward-init c = let e : c.args.depth - 0 ≡ c.args.depth = omega arith in rw e (find_begin c.args.scopes.now c.args.cat.now c.args.n c.args.depth c.args.name c.args.q)

@@ -2,12 +2,9 @@
 -- Assumes nothing.
 use Prim.Native.Nat.{ℕ, zero, suc, ◌+◌, ◌-◌, ◌*◌, ◌<◌, ◌≤◌, min}
 use mathlib.Core.Path.{◌≡◌, refl, sym, ap, ◌∙◌}
-use mathlib.Core.Bool.{Bool, true, false, cond}
 use mathlib.Core.List.{List, [], ◌∷◌, map}
 use native.Mathlib.Omega.{arith}
 use borrow.Author.Rules.{rules}
-use borrow.Author.Tests.{eqb-true}
-use lib.Dec.{eqb}
 use lib.ListN.{get_or, length, drop, drop_of_length-le}
 use lib.Seq.{drop-cons}
 use Rattle.word.specs.Record.{op_at, b_at, c_at}
@@ -16,12 +13,11 @@ use Rattle.class.specs.Info.{info_by}
 use Rattle.class.specs.declared.Info.{Info}
 use Rattle.class.specs.declared.Info.TheVariants.{Fixed}
 use Rattle.catalogue.specs.Tables.{Table, TabRef, table_at}
-use Rattle.scope.specs.Scopes.{block, local}
-use Rattle.scope.specs.Words.{count_in, table_in, name_in, type_in}
 use Rattle.scope.specs.Table.{tabs_at, open_of}
 use Rattle.scope.specs.Blocks.{opened}
-use Rattle.scope.specs.Entry.{tables_in, rows_of, classes_of, Among}
+use Rattle.scope.specs.Entry.{count_in, table_in, tables_in, rows_of, classes_of, Among}
 use Rattle.scope.specs.declared.Scope.{Scope}
+use Rattle.scope.specs.declared.Scope.TheVariants as S
 
 -- a field of each of so many tables: of the first ones there is one, past the last there is none
 module _ {A : Type 0} (f : Table → A) (d : A) (c : List ℕ) (n : ℕ) (s : Scope) where
@@ -47,33 +43,34 @@ module _ {A : Type 0} (f : Table → A) (d : A) (c : List ℕ) (n : ℕ) (s : Sc
 
 module _ (c : List ℕ) (n : ℕ) (s : Scope) where
   pub tables_in_lem : tables_in (open_of c n s) ≡ tabs_at c n s 0 (min (count_in s) 4)
-  unfolding open_of
-  tables_in_lem = go (eqb (count_in s) 0) refl
+  unfolding open_of tables_in count_in tabs_at
+  tables_in_lem = go s
     where
-      go : (b : Bool) → eqb (count_in s) 0 ≡ b → tables_in (cond b (local (name_in s) (type_in s)) (block (tabs_at c n s 0 (min (count_in s) 4)))) ≡ tabs_at c n s 0 (min (count_in s) 4)
-      go true e = unfold tables_in tabs_at in rw (eqb-true (count_in s) 0 e)
-      go false e = unfold tables_in in refl
+      go : (s : Scope) → tables_in (open_of c n s) ≡ tabs_at c n s 0 (min (count_in s) 4)
+      go (S.Block b) = refl
+      go (S.Local l) = refl
 
   -- a record that an entry names is among those of the catalogue
   pub table_room : (j t : ℕ) → Among n s → 8 + 8 * n ≤ length c → t ≡ table_in s j → 8 + 8 * t + 8 ≤ length c
   table_room j t a h e = omega (arith, a.below j)
 
-  module _ (m : ℕ) (l : (m ≡ min (count_in s) 4) × (m ≤ 4)) where
-    module _ (j t : ℕ) (h : j < m) (e : t ≡ table_in s j) where
-      pub row_here : (r : Info) → r ≡ info_by (op_at c t) (b_at c t) → r ≡ get_or (rows_of (tables_in (open_of c n s))) j (Fixed 0)
-      unfolding table_at
-      row_here r x = x ∙ rw (e, tables_in_lem, field_first (λ u. u.row) (Fixed 0) c n s (min (count_in s) 4) j (omega arith))
+  -- table j of an entry that has it
+  module _ (j t : ℕ) (l : (j < min (count_in s) 4) × (t ≡ table_in s j)) where
+    pub row_here : (r : Info) → r ≡ info_by (op_at c t) (b_at c t) → r ≡ get_or (rows_of (tables_in (open_of c n s))) j (Fixed 0)
+    unfolding table_at
+    row_here r x = x ∙ rw (l.1, tables_in_lem, field_first (λ u. u.row) (Fixed 0) c n s (min (count_in s) 4) j l.0)
 
-      pub class_here : (r : ℕ) → r ≡ c_at c t → r ≡ get_or (classes_of (tables_in (open_of c n s))) j 0
-      unfolding table_at
-      class_here r x = x ∙ rw (e, tables_in_lem, field_first (λ u. u.tclass) 0 c n s (min (count_in s) 4) j (omega arith))
+    pub class_here : (r : ℕ) → r ≡ c_at c t → r ≡ get_or (classes_of (tables_in (open_of c n s))) j 0
+    unfolding table_at
+    class_here r x = x ∙ rw (l.1, tables_in_lem, field_first (λ u. u.tclass) 0 c n s (min (count_in s) 4) j l.0)
 
-    module _ (j : ℕ) (h : m ≤ j) where
-      pub row_past : Fixed 0 ≡ get_or (rows_of (tables_in (open_of c n s))) j (Fixed 0)
-      row_past = rw tables_in_lem (sym (field_past (λ u. u.row) (Fixed 0) c n s 0 (min (count_in s) 4) j (omega arith)))
+  -- past its last
+  module _ (j : ℕ) (h : min (count_in s) 4 ≤ j) where
+    pub row_past : Fixed 0 ≡ get_or (rows_of (tables_in (open_of c n s))) j (Fixed 0)
+    row_past = rw tables_in_lem (sym (field_past (λ u. u.row) (Fixed 0) c n s 0 (min (count_in s) 4) j h))
 
-      pub class_past : 0 ≡ get_or (classes_of (tables_in (open_of c n s))) j 0
-      class_past = rw tables_in_lem (sym (field_past (λ u. u.tclass) 0 c n s 0 (min (count_in s) 4) j (omega arith)))
+    pub class_past : 0 ≡ get_or (classes_of (tables_in (open_of c n s))) j 0
+    class_past = rw tables_in_lem (sym (field_past (λ u. u.tclass) 0 c n s 0 (min (count_in s) 4) j h))
 
   -- the lub of the classes from table j on
   unfoldable pub lub_left : ℕ → ℕ

@@ -1,10 +1,10 @@
--- `scope::look_up` meets its contract: each turn of its loop reads one entry out of the lent slice, the innermost first.
+-- `scope::find` meets its contract: each turn of its loop reads one entry out of the lent slice, the innermost first.
 -- Assumes nothing.
 use Rattle.std.proofs.Common.{◌≡◌, ◌-◌}
 use Rattle.scope.specs.Scopes.{find}
 use Rattle.scope.specs.Table.{scopes_of, infos_of, found_of}
 use Rattle.scope.proofs.Search.{scopes_left}
-use Rattle.scope.proofs.lent.look_up.Given as goal
+use Rattle.scope.proofs.find.Given as goal
 
 abbrev pub invariant-loop-outward : goal.invariant-loop-outward
 invariant-loop-outward l =
