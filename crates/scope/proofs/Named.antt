@@ -1,12 +1,13 @@
 -- A block's tables by their names: what the catalogue says of each, what the entry made of them opens, and the names as they were read.
 -- Assumes nothing.
+use Rattle.std.specs.Prelude.{Option, Some, None}
 use Prim.Native.Nat.{ℕ, zero, suc, ◌+◌, ◌-◌, ◌<◌, ◌≤◌, min}
 use mathlib.Core.Path.{◌≡◌, refl, sym, ap, subst, ◌∙◌}
 use mathlib.Core.Bool.{Bool, true, false, cond}
 use mathlib.Core.List.{List, [], ◌∷◌, map}
 use native.Mathlib.Omega.{arith}
 use native.Mathlib.Decide.{dec_lt}
-use lib.Dec.{eqb, ltb}
+use lib.Dec.{eqb}
 use lib.ListN.{get_or, length, length-map, replicate}
 use Rattle.word.specs.Buffer.{put}
 use Rattle.word.specs.Refusal.{Checked, fine, refusal}
@@ -16,7 +17,7 @@ use Rattle.class.specs.declared.Info.TheVariants.{Fixed}
 use Rattle.cell.specs.Res.{Res, stuck, done, nth}
 use Rattle.cell.specs.declared.Type.TheVariants.{Null}
 use Rattle.catalogue.specs.Tables.{Table, TabRef, table_at, tables_from, table_named}
-use Rattle.catalogue.specs.Starts.{starts_from, StartsAre, ref_by}
+use Rattle.catalogue.specs.Starts.{starts_from, StartsAre, ref_of}
 use Rattle.catalogue.proofs.Places.{named_in, find_begin, starts_number, start_is, start_below}
 use Rattle.view.specs.Ast.{TabName}
 use Rattle.view.specs.Record.{node_at}
@@ -193,11 +194,11 @@ module _ (c : List ℕ) (n tables : ℕ) (ss : List ℕ) (v : List ℕ) (at coun
   block_fine ts x e f = f ∙ rw e
 
   -- the number of each table is found again at its TABLE record
-  pub number_again : (ts : List TabRef) (t : TabRef) (j p r : ℕ) → tables_named (tables_from c n n 0) (names_at v at count) ≡ all ts → j < count → nth ts j ≡ done t → p ≡ at + j
-      → (table_named (name_of (node_at v p)) (tables_from c n n 0) ≡ ref_by c n ss tables r) × (r ≤ tables) → r ≡ t.num
-  unfolding ref_by
-  number_again ts t j p r e l d f g = go (ltb r tables) (sym d ∙ sym (name_at (tables_from c n n 0) v at count ts e j l) ∙ rw (← f) g.0)
+  pub number_again : (ts : List TabRef) (t : TabRef) (j p : ℕ) (r : Option ℕ) → tables_named (tables_from c n n 0) (names_at v at count) ≡ all ts → j < count → nth ts j ≡ done t → p ≡ at + j
+      → table_named (name_of (node_at v p)) (tables_from c n n 0) ≡ ref_of c n ss r → r ≡ Some t.num
+  unfolding ref_of
+  number_again ts t j p r e l d f g = go r (sym d ∙ sym (name_at (tables_from c n n 0) v at count ts e j l) ∙ rw (← f) g)
     where
-      go : (b : Bool) → done t ≡ cond b (done (record { num = r; table = table_at c n (get_or ss r 0) })) stuck → r ≡ t.num
-      go true x = cc
-      go false x = absurd (let z : ◌≡◌ {A = ℕ} 0 1 = cc in omega arith)
+      go : (o : Option ℕ) → done t ≡ ref_of c n ss o → o ≡ Some t.num
+      go (Some k) x = let y : t ≡ record { num = k; table = table_at c n (get_or ss k 0) } = cc in rw y
+      go None x = absurd (let z : ◌≡◌ {A = ℕ} 0 1 = cc in omega arith)

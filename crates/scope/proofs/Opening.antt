@@ -1,18 +1,18 @@
 -- Entries made: a local's, and a block's as its tables are looked up one after the other; one law for each place of the code.
 -- Assumes nothing.
+use Rattle.std.specs.Prelude.{Option, Some, None}
 use Prim.Native.Nat.{ℕ, suc, ◌+◌, ◌-◌, ◌<◌, ◌≤◌, min}
 use mathlib.Core.Path.{◌≡◌, refl, sym, ◌∙◌}
 use mathlib.Core.List.{List, [], ◌∷◌}
 use native.Mathlib.Omega.{arith}
 use native.Mathlib.Numerals.{add-one}
 use borrow.Author.Rules.{rules}
-use borrow.Author.Tests.{lt-ltb, le-ltb}
 use lib.ListN.{get_or, length, set}
 use Rattle.word.specs.Buffer.{put}
 use Rattle.word.specs.Refusal.{Checked, fine, refusal}
 use Rattle.cell.specs.Res.{Res}
 use Rattle.catalogue.specs.Tables.{Table, TabRef, table_at, tables_from, table_named}
-use Rattle.catalogue.specs.Starts.{ref_by}
+use Rattle.catalogue.specs.Starts.{ref_of}
 use Rattle.view.specs.Record.{node_at}
 use Rattle.view.specs.Parse.{name_of, names_at}
 use Rattle.view.specs.declared.Node.{Node}
@@ -54,14 +54,14 @@ module _ (c : List ℕ) (n : ℕ) (ss : List ℕ) (tables : ℕ) (v : List ℕ) 
   one_more ws j t (all ts) = let e : j + suc (length ts) ≡ suc j + length ts = omega arith in rw (add-one j, e)
   one_more ws j t (missing p) = refl
 
-  module _ (ws : List ℕ) (j k : ℕ) (X : Checked Scope) (x : X ≡ open_from ss ws j (tabs_left j)) (h : j < count) (g : (table_named (name_of (node_at v (at + j))) (tables_from c n n 0) ≡ ref_by c n ss tables k) × (k ≤ tables)) where
-    pub open_missing : tables ≤ k → refusal 6 (min (at + j) 65535) ≡ X
-    unfolding found_at ref_by open_from
-    open_missing l = sym (x ∙ rw (tabs_next j h, g.0, le-ltb k tables l))
+  module _ (ws : List ℕ) (j : ℕ) (X : Checked Scope) (x : X ≡ open_from ss ws j (tabs_left j)) (h : j < count) (r : Option ℕ) (g : table_named (name_of (node_at v (at + j))) (tables_from c n n 0) ≡ ref_of c n ss r) where
+    pub open_missing : r ≡ None → refusal 6 (min (at + j) 65535) ≡ X
+    unfolding found_at ref_of open_from
+    open_missing e = sym (x ∙ rw (tabs_next j h, g, e))
 
-    pub open_again : k < tables → X ≡ open_from ss (set ws j (get_or ss k 0)) (j + 1) (tabs_left (j + 1))
-    unfolding found_at ref_by
-    open_again l = x ∙ rw (tabs_next j h, g.0, lt-ltb k tables l) (one_more ws j (record { num = k; table = table_at c n (get_or ss k 0) }) (tabs_left (j + 1)))
+    pub open_again : (k : ℕ) → r ≡ Some k → X ≡ open_from ss (set ws j (get_or ss k 0)) (j + 1) (tabs_left (j + 1))
+    unfolding found_at ref_of
+    open_again k e = x ∙ rw (tabs_next j h, g, e) (one_more ws j (record { num = k; table = table_at c n (get_or ss k 0) }) (tabs_left (j + 1)))
 
   pub open_done : (ws : List ℕ) (j : ℕ) (X : Checked Scope) → X ≡ open_from ss ws j (tabs_left j) → count ≤ j → j ≤ count → fine (S.Block (record { tables = ws; count = count })) ≡ X
   unfolding open_from tabs_left names_at tables_named put block_scope

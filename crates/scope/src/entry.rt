@@ -3,7 +3,7 @@
 ghost use Rattle.std.specs.Prelude.{◌≡◌, ◌+◌, ◌*◌, ◌≤◌, ◌<◌, length, min, get_or, None, IfSome};
 ghost use Rattle.word.specs.Refusal.{said};
 ghost use Rattle.catalogue.specs.Tables.{tables_from, table_named};
-ghost use Rattle.catalogue.specs.Starts.{StartsAre, ref_by};
+ghost use Rattle.catalogue.specs.Starts.{StartsAre, ref_of};
 ghost use Rattle.view.specs.Record.{node_at};
 ghost use Rattle.view.specs.Parse.{name_of, names_at};
 ghost use Rattle.scope.specs.Blocks.{tables_named};
@@ -59,7 +59,7 @@ fn name_of(node: view::Node) -> u16
     name
 }
 
-/// The number among the tables of the one that TABLE record p names; `tables` where there is none.
+/// The number among the tables of the one that TABLE record p names, if there is one.
 pub fn table_number(
     cat: &[u8],
     n: usize,
@@ -67,11 +67,12 @@ pub fn table_number(
     tables: usize,
     view: &[u8],
     p: usize,
-) -> usize
+) -> Option<usize>
     requires n_in_bounds { 8 + 8 * n ≤ length cat.now }
     requires starts_are { StartsAre cat.now n tables starts.now }
     requires p_in_bounds { 8 + 8 * p + 8 ≤ length view.now }
-    ensures { (table_named (name_of (node_at view.now p)) (tables_from cat.now n n 0) ≡ ref_by cat.now n starts.now tables result) × (result ≤ tables) }
+    ensures found { table_named (name_of (node_at view.now p)) (tables_from cat.now n n 0) ≡ ref_of cat.now n starts.now result }
+    ensures few { IfSome result (λ j. j < tables) }
 {
     catalogue::find_table(cat, n, starts, tables, name_of(view::node_at(view, p)))
 }
@@ -94,13 +95,12 @@ pub fn open_block(
 {
     let mut places = [0u16; 4];
     for j in 0..count {
-        let k = table_number(cat, n, starts, tables, view, at + j);
-        if tables <= k {
+        let Some(k) = table_number(cat, n, starts, tables, view, at + j) else {
             return Err(Refusal {
                 reason: Reason::NoTable,
                 place: (at + j).min(65535) as u16,
             });
-        }
+        };
         places[j] = starts[k];
     }
     Ok(Scope::Block(Block {
