@@ -6,9 +6,9 @@ pub mod Induction
 pub mod Laws
 pub mod Nodes
 pub mod Read
+pub mod Rules
 pub mod Samples
 pub mod Says
 pub mod Shapes
-pub mod Sound
 pub mod Turns
 pub mod Whole

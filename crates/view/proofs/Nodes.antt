@@ -141,5 +141,3 @@ module _ (r : Record) where
         ne_eqb r.kind 29 m,
         ne_eqb r.kind 30 n,
       )
-
-pub ruleset nodes = (const_null, const_truth, const_fixed, const_time, const_interval, const_class, node_const, node_binop, node_not, node_if, node_exists, node_single, node_table, node_select, node_col, node_classof, node_let, node_count, node_greatest, node_least, node_low, node_high, rules)

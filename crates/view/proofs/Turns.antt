@@ -12,17 +12,19 @@ use borrow.Author.Tests.{eq-eqb, ne_eqb, lt-ltb, le-ltb, eqb-true}
 use Rattle.std.specs.Prelude.{Option, Some, None}
 use Rattle.word.specs.Bytes.{within}
 use Rattle.word.specs.Header.{drq, headed, count_at}
+use Rattle.word.specs.Record.{Record, rec_at}
 use Rattle.word.specs.Refusal.{Checked, fine, refusal}
 use Rattle.word.proofs.Laws.{headed_long}
 use Rattle.view.specs.Ast.{Exp, Parsed, and_then, ok}
-use Rattle.view.specs.Record.{node_at, slot_of, shape_of}
+use Rattle.view.specs.Record.{node_of, node_at, slot_of, shape_of, in_rule}
 use Rattle.view.specs.Parse.{enter, many, parse_table, parse_block, parse_node, parse_value, parse_root, parse_view, peek_of, place_of, check_of}
 use Rattle.view.specs.declared.Shape.{Shape}
 use Rattle.view.specs.declared.Shape.TheVariants.{Values, Block}
 use Rattle.view.specs.declared.Node.{Node}
-use Rattle.view.specs.declared.Node.TheVariants.{Table, Select, Bad}
+use Rattle.view.specs.declared.Node.TheVariants.{Table, Select}
 use Rattle.view.proofs.Laws.{and_right, place_fine, place_refusal, to_refusal, peek_refused, peek_found, enter_here, enter_elsewhere, value_refused, value_deep, value_node, many_turn, many_stop, many_end, tables_refused, where_refused, where_next, root_refused, root_block_refused, root_end, root_more}
-use Rattle.view.proofs.Shapes.{is_value, no_value, slot_bad, slot_table, slot_select, after, shape_place}
+use Rattle.view.proofs.Rules.{out_of_rule, rule_slot}
+use Rattle.view.proofs.Shapes.{is_value, no_value, slot_table, slot_select, after, shape_place}
 
 -- the node at a reader's place
 module _ (v : List ℕ) (n at : ℕ) where
@@ -30,14 +32,14 @@ module _ (v : List ℕ) (n at : ℕ) where
   unfolding peek_of
   peek_early h = rw (le-ltb at n h)
 
-  module _ {nd : Node} (h : at < n) (e : nd ≡ node_at v at) where
-    pub peek_bad : nd ≡ Bad → refusal 3 at ≡ peek_of v n at
-    unfolding peek_of slot_of
-    peek_bad f = rw (lt-ltb at n h, ← e, f)
+  module _ {r : Record} {i : ℕ} (h : at < n) (d : i ≡ at) (e : r ≡ rec_at v i) where
+    pub peek_bad : in_rule r ≡ false → refusal 3 at ≡ peek_of v n at
+    unfolding peek_of slot_of node_at
+    peek_bad f = rw (lt-ltb at n h, ← d, ← e, ← out_of_rule r f)
 
-    pub peek_here : (nd ≡ Bad → ⊥) → fine nd ≡ peek_of v n at
-    unfolding peek_of
-    peek_here f = rw (lt-ltb at n h, ← e, ne_eqb (slot_of nd) 0 (λ z. f (slot_bad nd z)))
+    pub peek_here : {nd : Node} → in_rule r ≡ true → nd ≡ node_of r → fine nd ≡ peek_of v n at
+    unfolding peek_of node_at
+    peek_here f g = rw (lt-ltb at n h, ← d, ← e, rule_slot r f, g)
 
   -- the record of a node stands in the view
   pub stands : {nd : Node} → fine nd ≡ peek_of v n at → at < n

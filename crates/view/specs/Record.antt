@@ -1,6 +1,6 @@
 -- What a record of a view says: one node for each kind, with the fields that the kind has. A field that isn't named is zero.
 -- Assumes nothing.
-use Rattle.std.specs.Prelude.{ℕ, ◌+◌, ◌*◌, ◌/◌, ◌%◌, Bool, true, false, cond, ◌&&◌, List, eqb, leb, ℤ, nat_abs, Option, Some, None}
+use Rattle.std.specs.Prelude.{ℕ, ◌+◌, ◌*◌, ◌/◌, ◌%◌, Bool, true, false, not, cond, ◌&&◌, List, eqb, leb, ℤ, nat_abs, Option, Some, None}
 use Rattle.word.specs.Bytes.{signed32, bits32, within}
 use Rattle.word.specs.Record.{Record, rec_at}
 use Rattle.cell.specs.Types.{digits_rule}
@@ -89,6 +89,10 @@ slot_of (Col name q) = 1
 slot_of (Classof name q) = 1
 slot_of (Let name) = 1
 slot_of Bad = 0
+
+-- whether a record says a node: its kind is known and its fields keep the kind's rule
+unfoldable pub in_rule : Record → Bool
+in_rule r = not (eqb (slot_of (node_of r)) 0)
 
 -- what follows the record of a value: so many values, or a block; TABLE, SELECT and a bad record are no values
 unfoldable pub shape_of : Node → Option Shape

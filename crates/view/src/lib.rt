@@ -4,11 +4,11 @@
 
 mod reader;
 
-ghost use Rattle.std.specs.Prelude.{◌≡◌, ◌&&◌, ◌+◌, ◌*◌, ◌/◌, ◌%◌, ◌≤◌, ◌<◌, length, eqb};
+ghost use Rattle.std.specs.Prelude.{◌≡◌, ◌&&◌, ◌+◌, ◌*◌, ◌/◌, ◌%◌, ◌≤◌, ◌<◌, true, length};
 ghost use Rattle.word.specs.Refusal.{said};
 ghost use Rattle.cell.specs.Types.{digits_rule};
 ghost use Rattle.cell.specs.Values.{digits};
-ghost use Rattle.view.specs.Record.{when, bare, op_only, a_only, counts, value_in, const_of, node_of, node_at, slot_of, shape_of};
+ghost use Rattle.view.specs.Record.{bare, op_only, a_only, counts, value_in, in_rule, node_of, node_at, slot_of, shape_of};
 ghost use Rattle.view.specs.Parse.{many, parse_table, parse_block, parse_value, parse_root, place_of, read_to, check_of};
 
 use reader::Reader;
@@ -30,7 +30,7 @@ pub enum Pick {
 }
 
 /// What a record says: its kind with the fields that the kind has. Bad: an unknown kind or op, or a field out of rule.
-#[derive(Clone, Copy)]
+#[derive(Clone, Copy, PartialEq, Eq, Debug)]
 pub enum Node {
     Const(cell::Type, cell::Value),
     Binop(u8),
@@ -56,6 +56,7 @@ pub enum Shape {
 impl Node {
     /// What follows a value's record; TABLE, SELECT and a bad record are no values.
     #[tactic(auto, unfolding(crate::specs::Record::shape_of))]
+    #[inline(always)]
     fn shape(self) -> Option<Shape>
         ensures { result ≡ shape_of self }
     {
@@ -69,13 +70,6 @@ impl Node {
             _ => None,
         }
     }
-}
-
-/// The node, where its fields keep their rule.
-fn when(kept: bool, node: Node) -> Node
-    ensures { result ≡ when kept node }
-{
-    if kept { node } else { Node::Bad }
 }
 
 /// No field is named.
@@ -127,92 +121,50 @@ fn fixed_rule(fields: Record) -> bool
     }
 }
 
-/// The node of a record of kind 1 to 6.
-#[tactic(auto, using(crate::proofs::Nodes::nodes))]
-fn const_of(fields: Record) -> Node
-    ensures { result ≡ const_of fields }
+/// Whether a record's kind is known and its fields keep the kind's rule: whether it says a node.
+#[tactic(auto, using(crate::proofs::Rules::rule))]
+#[inline(always)]
+pub(crate) fn is_in_rule(fields: Record) -> bool
+    ensures { result ≡ in_rule fields }
 {
     let op = fields.op;
-    let zero = fields.a == 0;
+    let a = fields.a;
+    let plain = (op == 0) & (fields.c == 0);
+    let over = (1 <= a) & (a <= 4);
+    // Stays: an arm for each kind (reason b). Arms that share a pattern, as `14 | 15`, are compiled to a ladder of tests, and the check of a view then took a fifth longer.
     match fields.kind {
-        1 => when(
-            bare(fields),
-            Node::Const(cell::Type::Null, cell::Value::Null),
-        ),
-        2 => when(
-            (op <= 1) & op_only(fields),
-            Node::Const(cell::Type::Boolean, cell::Value::Truth(op == 1)),
-        ),
-        3 => when(
-            zero & fixed_rule(fields),
-            Node::Const(
-                cell::Type::Fixed(op / 16, op % 16),
-                cell::Value::Fixed(op % 16, value_in(fields)),
-            ),
-        ),
-        4 => when(
-            zero,
-            Node::Const(cell::Type::Time(op), cell::Value::Time(value_in(fields))),
-        ),
-        5 => when(
-            zero,
-            Node::Const(
-                cell::Type::Interval(op),
-                cell::Value::Interval(value_in(fields)),
-            ),
-        ),
-        _ => when(
-            a_only(fields),
-            Node::Const(cell::Type::Class, cell::Value::Class(fields.a)),
-        ),
+        1 => bare(fields),
+        2 => (op <= 1) & op_only(fields),
+        3 => (a == 0) & fixed_rule(fields),
+        4 => a == 0,
+        5 => a == 0,
+        6 => a_only(fields),
+        7 => ((1 <= op) & (op <= 12)) & op_only(fields),
+        8 => bare(fields),
+        9 => bare(fields),
+        10 => over & a_only(fields),
+        11 => over & a_only(fields),
+        12 => (1 <= a) & a_only(fields),
+        13 => (over & ((1 <= fields.b) & (fields.b <= 32))) & plain,
+        14 => (1 <= a) & plain,
+        15 => (1 <= a) & plain,
+        16 => (1 <= a) & a_only(fields),
+        28 => over & counts(fields),
+        29 => over & a_only(fields),
+        30 => over & a_only(fields),
+        _ => false,
     }
 }
 
-/// The node of a record.
-#[tactic(auto, using(crate::proofs::Nodes::nodes))]
-fn node_of(fields: Record) -> Node
+/// The node that a record in rule says, by its kind.
+#[tactic(auto, using(crate::proofs::Rules::sound))]
+#[inline(always)]
+pub(crate) fn node_of(fields: Record) -> Node
+    requires { in_rule fields ≡ true }
     ensures { result ≡ node_of fields }
 {
     let op = fields.op;
     let a = fields.a;
-    let b = fields.b;
-    let plain = (op == 0) & (fields.c == 0);
-    let over = (1 <= a) & (a <= 4);
-    match fields.kind {
-        1..=6 => const_of(fields),
-        7 => when(((1 <= op) & (op <= 12)) & op_only(fields), Node::Binop(op)),
-        8 => when(bare(fields), Node::Not),
-        9 => when(bare(fields), Node::If),
-        10 => when(over & a_only(fields), Node::Exists(a, Fold::Any)),
-        11 => when(over & a_only(fields), Node::Single(a, Pick::Only)),
-        12 => when((1 <= a) & a_only(fields), Node::Table(a)),
-        13 => when((over & ((1 <= b) & (b <= 32))) & plain, Node::Select(a, b)),
-        14 => when((1 <= a) & plain, Node::Col(a, b)),
-        15 => when((1 <= a) & plain, Node::Classof(a, b)),
-        16 => when((1 <= a) & a_only(fields), Node::Let(a)),
-        28 => when(over & counts(fields), Node::Exists(a, Fold::Count(op / 16))),
-        29 => when(over & a_only(fields), Node::Single(a, Pick::Greatest)),
-        30 => when(over & a_only(fields), Node::Single(a, Pick::Least)),
-        _ => Node::Bad,
-    }
-}
-
-/// The node of record i of a view.
-#[tactic(auto, unfolding(crate::specs::Record::node_at))]
-pub fn node_at(view: &[u8], i: usize) -> Node
-    requires { 8 + 8 * i + 8 ≤ length view.now }
-    ensures { result ≡ node_at view.now i }
-{
-    node_of(word::record_at(view, i))
-}
-
-/// The node of a constant's record that keeps its rule.
-#[tactic(auto, using(crate::proofs::Sound::sound))]
-fn sound_const(fields: Record) -> Node
-    requires { slot_of (const_of fields) ≡ 1 }
-    ensures { result ≡ const_of fields }
-{
-    let op = fields.op;
     match fields.kind {
         1 => Node::Const(cell::Type::Null, cell::Value::Null),
         2 => Node::Const(cell::Type::Boolean, cell::Value::Truth(op == 1)),
@@ -225,20 +177,8 @@ fn sound_const(fields: Record) -> Node
             cell::Type::Interval(op),
             cell::Value::Interval(value_in(fields)),
         ),
-        _ => Node::Const(cell::Type::Class, cell::Value::Class(fields.a)),
-    }
-}
-
-/// The node of a record that keeps its rule.
-#[tactic(auto, using(crate::proofs::Sound::sound))]
-fn sound_of(fields: Record) -> Node
-    requires { slot_of (node_of fields) ≡ 1 }
-    ensures { result ≡ node_of fields }
-{
-    let a = fields.a;
-    match fields.kind {
-        1..=6 => sound_const(fields),
-        7 => Node::Binop(fields.op),
+        6 => Node::Const(cell::Type::Class, cell::Value::Class(a)),
+        7 => Node::Binop(op),
         8 => Node::Not,
         9 => Node::If,
         10 => Node::Exists(a, Fold::Any),
@@ -248,21 +188,35 @@ fn sound_of(fields: Record) -> Node
         14 => Node::Col(a, fields.b),
         15 => Node::Classof(a, fields.b),
         16 => Node::Let(a),
-        28 => Node::Exists(a, Fold::Count(fields.op / 16)),
+        28 => Node::Exists(a, Fold::Count(op / 16)),
         29 => Node::Single(a, Pick::Greatest),
         30 => Node::Single(a, Pick::Least),
         _ => Node::Bad,
     }
 }
 
+/// The node of record i of a view.
+#[tactic(auto, unfolding(crate::specs::Record::node_at), using(crate::proofs::Rules::out_of_rule))]
+pub fn node_at(view: &[u8], i: usize) -> Node
+    requires { 8 + 8 * i + 8 ≤ length view.now }
+    ensures { result ≡ node_at view.now i }
+{
+    let fields = word::record_at(view, i);
+    if is_in_rule(fields) {
+        node_of(fields)
+    } else {
+        Node::Bad
+    }
+}
+
 /// The node of record i of a view, which is known to stand in a value's place: its rule isn't tested again.
-#[tactic(auto, unfolding(crate::specs::Record::node_at))]
+#[tactic(auto, unfolding(crate::specs::Record::node_at), using(crate::proofs::Rules::value_in_rule))]
 pub fn sound_at(view: &[u8], i: usize) -> Node
     requires i_in_bounds { 8 + 8 * i + 8 ≤ length view.now }
     requires i_value { slot_of (node_at view.now i) ≡ 1 }
     ensures { result ≡ node_at view.now i }
 {
-    sound_of(word::record_at(view, i))
+    node_of(word::record_at(view, i))
 }
 
 /// A TABLE record, with so many levels left.

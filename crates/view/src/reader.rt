@@ -3,7 +3,7 @@ ghost use Rattle.std.specs.Prelude.{◌≡◌, ◌+◌, ◌*◌, ◌≤◌, ◌<
 ghost use Rattle.word.specs.Refusal.{said};
 ghost use Rattle.view.specs.Parse.{peek_of};
 
-use crate::{Node, node_at};
+use crate::{Node, is_in_rule, node_of};
 use word::{Reason, Refusal};
 
 /// The lent bytes of a view, the number of its records, and the number of the record at the reader's place.
@@ -32,6 +32,7 @@ impl<'a> Reader<'a> {
 
     /// The node at the reader's place, or why there is none: the view ends early, or the record says nothing.
     #[tactic(auto, using(crate::proofs::Turns::peeks))]
+    #[inline(always)]
     pub fn peek(&self) -> Result<Node, Refusal>
         ensures { said result ≡ peek_of self.now.view.now self.now.count self.now.place }
     {
@@ -41,13 +42,14 @@ impl<'a> Reader<'a> {
                 place: self.count,
             });
         }
-        match node_at(self.view, usize::from(self.place)) {
-            Node::Bad => Err(Refusal {
+        let fields = word::record_at(self.view, usize::from(self.place));
+        if !is_in_rule(fields) {
+            return Err(Refusal {
                 reason: Reason::FieldOutOfRule,
                 place: self.place,
-            }),
-            node => Ok(node),
+            });
         }
+        Ok(node_of(fields))
     }
 
     /// Moves on by one record.
