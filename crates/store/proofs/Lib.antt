@@ -7,4 +7,5 @@ pub mod Lists
 pub mod Stores
 pub mod Cells
 pub mod Spanning
+pub mod Arrays
 pub mod Samples

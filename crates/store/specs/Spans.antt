@@ -1,6 +1,7 @@
 -- Where the rows of each table stand: three numbers for each table, found once and held in an array.
 -- Assumes nothing.
-use Rattle.std.specs.Prelude.{ℕ, ◌+◌, ◌*◌, ◌<◌, ◌≤◌, ◌≡◌, List, [], ◌∷◌, length, get_or, replicate}
+use Rattle.store.specs.declared.places.Span.{Span}
+use Rattle.std.specs.Prelude.{ℕ, zero, suc, map, ◌+◌, ◌*◌, ◌<◌, ◌≤◌, ◌≡◌, List, [], ◌∷◌, length, get_or, replicate}
 use Rattle.word.specs.Bytes.{u16_at}
 use Rattle.word.specs.Buffer.{put}
 use Rattle.word.specs.Record.{kind_at}
@@ -25,3 +26,29 @@ pub record SpanAt (c : List ℕ) (n : ℕ) (s : List ℕ) (i j : ℕ) (ss : List
   pub rows : get_or ss (3 * j + 1) 0 ≡ u16_at s (place_of c n s i)
   pub size : get_or ss (3 * j + 2) 0 ≡ row_size c n i
   pub inside : get_or ss (3 * j) 0 + get_or ss (3 * j + 1) 0 * get_or ss (3 * j + 2) 0 ≤ length s
+
+-- the span of table record i, of n
+unfoldable pub span_of : List ℕ → ℕ → List ℕ → ℕ → Span
+span_of c n s i = record { first = place_of c n s i + 2; rows = u16_at s (place_of c n s i); size = row_size c n i }
+
+abbrev pub blank : Span
+blank = record { first = 0; rows = 0; size = 0 }
+
+-- a list in an array of so many: blanks stand after it, and what is past the array is left out
+unfoldable pub fill : {A : Type 0} → ℕ → A → List A → List A
+fill zero d xs = []
+fill (suc m) d [] = d ∷ fill m d []
+fill (suc m) d (x ∷ xs) = x ∷ fill m d xs
+
+-- THE SPANS of the tables among n records, in an array for 32 tables
+unfoldable pub spans_of : List ℕ → ℕ → List ℕ → List Span
+spans_of c n s = fill 32 blank (map (span_of c n s) (starts_from c n 0))
+
+-- what a table's span says, whose record is i: where its rows stand, and that all of them stand inside the store
+pub record IsSpan (c : List ℕ) (n : ℕ) (s : List ℕ) (i : ℕ) (span : Span) : Type 0 where
+  pub below : i < n
+  pub table : kind_at c i ≡ 1
+  pub first : span.first ≡ place_of c n s i + 2
+  pub rows : span.rows ≡ u16_at s (place_of c n s i)
+  pub size : span.size ≡ row_size c n i
+  pub inside : span.first + span.rows * span.size ≤ length s

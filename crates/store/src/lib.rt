@@ -10,7 +10,9 @@ ghost use Rattle.store.specs.Layout.{class_rule, value_rule, cell_rule, cell_pla
 
 mod places;
 
-pub use places::{cell_bits, cell_class, cell_null, cell_value, row_class, spans};
+pub use places::{
+    Span, cell_bits, cell_class, cell_null, cell_value, row_class, spans, table_spans,
+};
 use word::{Reason, Record, Refusal};
 
 // A byte; past the end it counts as 0.

@@ -6,7 +6,7 @@ ghost use Rattle.word.specs.Buffer.{Wrote};
 ghost use Rattle.catalogue.specs.Starts.{starts_from};
 ghost use Rattle.store.specs.Layout.{place_of, end_from};
 ghost use Rattle.store.specs.Rows.{value_of, cell_at};
-ghost use Rattle.store.specs.Spans.{spans_over, spans_array};
+ghost use Rattle.store.specs.Spans.{spans_over, spans_array, spans_of, blank};
 
 use crate::{half, place_after, record, row_size};
 
@@ -54,6 +54,47 @@ pub fn spans(cat: &[u8], n: usize, store: &[u8]) -> [u16; 96]
         i += 1;
     }
     slots
+}
+
+/// Where the rows of a table stand in a store: the place of the first row, how many there are, the bytes of each.
+#[derive(Clone, Copy, PartialEq, Eq, Debug)]
+pub struct Span {
+    pub first: u16,
+    pub rows: u16,
+    pub size: u16,
+}
+
+impl Span {
+    // What stands in an array after the last table.
+    const BLANK: Span = Span {
+        first: 0,
+        rows: 0,
+        size: 0,
+    };
+}
+
+/// The spans of the tables among n records, in order, in an array for 32: blanks stand after them, and a 33rd is left out.
+pub fn table_spans(cat: &[u8], n: usize, store: &[u8]) -> [Span; 32]
+    requires { (n ≤ 2080) × (end_from cat.now n store.now n 0 8 ≤ 65528) }
+    ensures { result ≡ spans_of cat.now n store.now }
+{
+    let mut spans = [Span::BLANK; 32];
+    let mut tables = 0;
+    let mut at = 8;
+    for i in 0..n {
+        if record(cat, i).kind == 1 {
+            if tables < spans.len() {
+                spans[tables] = Span {
+                    first: (at + 2) as u16,
+                    rows: half(store, at),
+                    size: row_size(cat, n, i) as u16,
+                };
+            }
+            tables += 1;
+        }
+        at = place_after(cat, n, store, i, at);
+    }
+    spans
 }
 
 // The class of the row at a place.
