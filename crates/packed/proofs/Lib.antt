@@ -1,4 +1,4 @@
--- The laws of an outcome in one word. For callers: Laws, Nodes (a tree's nodes over words), Constants. For the functions: Words, Returns, Testing, Operating, Stored.
+-- The laws of an outcome in one word. For callers: Laws, Nodes (a tree's nodes over words), Constants. For the functions: Words, Returns, Testing, Operating, Stored, Counting.
 -- Assumes nothing.
 pub mod Laws
 pub mod Nodes
@@ -8,3 +8,4 @@ pub mod Returns
 pub mod Testing
 pub mod Operating
 pub mod Stored
+pub mod Counting

@@ -1,12 +1,13 @@
 // The open scopes in 64 words, four to a scope: the leaves of a tree look up rows, cells and locals in them.
 // A scope is opened in a copy.
 ghost use Rattle.std.specs.Prelude.{◌≡◌, ◌+◌, ◌*◌, ◌%◌, ◌<◌, ◌≤◌, length, set};
-ghost use Rattle.packed.specs.Packed.{open_of};
+ghost use Rattle.packed.specs.Packed.{meaning};
 ghost use Rattle.packed.specs.Constants.{const_meaning};
 ghost use Rattle.run.specs.Words.{kind_in, op_in, a_in, b_in, c_in, place_in};
 ghost use Rattle.run.specs.Env.{slot_of, row_of, Scoped, LeafRight, SlotReady, DataRight, CellClassRight, RowClassRight, LocalRight, LocalClassRight};
 
 use crate::words::{a_in, b_in, c_in, kind_in, op_in};
+use packed::Outcome;
 
 // Word b of the scope a scopes outward; 0 where there is none.
 fn slot(env: &[u64; 64], d: usize, a: usize, b: usize) -> u64
@@ -32,39 +33,39 @@ fn row_word(env: &[u64; 64], d: usize, a: usize, b: usize) -> u64
 }
 
 // DATA: the value of cell k of a row.
-fn data(cat: &[u8], store: &[u8], w: u64, k: usize) -> u64
+fn data(cat: &[u8], store: &[u8], w: u64, k: usize) -> Outcome
     requires { SlotReady cat.now store.now w }
     ensures { DataRight cat.now store.now w k result }
 {
     if k < b_in(w) {
         let ty = word::c_at(cat, a_in(w) + 1 + k);
         let place = store::cell_place(place_in(w), k);
-        return packed::cell_word(store, ty, place);
+        return Outcome::cell(store, ty, place);
     }
-    packed::stuck_word()
+    Outcome::stuck()
 }
 
 // CELLCLASS: the class of cell k of a row.
-fn cell_class(cat: &[u8], store: &[u8], w: u64, k: usize) -> u64
+fn cell_class(cat: &[u8], store: &[u8], w: u64, k: usize) -> Outcome
     requires { SlotReady cat.now store.now w }
     ensures { CellClassRight cat.now store.now w k result }
 {
     if k < b_in(w) {
         let place = store::cell_place(place_in(w), k);
-        return packed::class_word(store::cell_class(store, place));
+        return Outcome::of_class(store::cell_class(store, place));
     }
-    packed::stuck_word()
+    Outcome::stuck()
 }
 
 // ROWCLASS: the class of a row.
-fn row_class(cat: &[u8], store: &[u8], w: u64) -> u64
+fn row_class(cat: &[u8], store: &[u8], w: u64) -> Outcome
     requires { SlotReady cat.now store.now w }
     ensures { RowClassRight cat.now store.now w result }
 {
     if w == 0 {
-        return packed::stuck_word();
+        return Outcome::stuck();
     }
-    packed::class_word(store::row_class(store, place_in(w)))
+    Outcome::of_class(store::row_class(store, place_in(w)))
 }
 
 fn place_in(w: u64) -> usize
@@ -74,38 +75,38 @@ fn place_in(w: u64) -> usize
 }
 
 // LOCAL: the value of a local.
-fn local(cat: &[u8], store: &[u8], env: &[u64; 64], d: usize, a: usize) -> u64
+fn local(cat: &[u8], store: &[u8], env: &[u64; 64], d: usize, a: usize) -> Outcome
     requires { Scoped cat.now store.now env.now d }
     ensures { LocalRight cat.now store.now env.now d a result }
 {
     let w = slot(env, d, a, 0);
     if w < 9223372036854775808 {
-        return packed::stuck_word();
+        return Outcome::stuck();
     }
-    w
+    Outcome::of_word(w)
 }
 
 // LOCALCLASS: the class of a local, where BINDC gave one.
-fn local_class(cat: &[u8], store: &[u8], env: &[u64; 64], d: usize, a: usize) -> u64
+fn local_class(cat: &[u8], store: &[u8], env: &[u64; 64], d: usize, a: usize) -> Outcome
     requires { Scoped cat.now store.now env.now d }
     ensures { LocalClassRight cat.now store.now env.now d a result }
 {
     let first = slot(env, d, a, 0);
     if first < 9223372036854775808 {
-        return packed::stuck_word();
+        return Outcome::stuck();
     }
     let w = slot(env, d, a, 1);
     if w == 0 {
-        return packed::stuck_word();
+        return Outcome::stuck();
     }
-    packed::class_word((w % 65536) as u16)
+    Outcome::of_class((w % 65536) as u16)
 }
 
 // A constant, by its record's word.
-fn constant(w: u64) -> u64
-    ensures { open_of result ≡ const_meaning (kind_in w) (op_in w) (a_in w) (b_in w) (c_in w) }
+fn constant(w: u64) -> Outcome
+    ensures { meaning result ≡ const_meaning (kind_in w) (op_in w) (a_in w) (b_in w) (c_in w) }
 {
-    packed::const_word(
+    Outcome::constant(
         (w % 256) as u8,
         op_in(w),
         (w / 65536 % 65536) as u16,
@@ -115,7 +116,7 @@ fn constant(w: u64) -> u64
 }
 
 // A leaf, by its record's word.
-pub fn leaf(w: u64, cat: &[u8], store: &[u8], env: &[u64; 64], d: usize) -> u64
+pub fn leaf(w: u64, cat: &[u8], store: &[u8], env: &[u64; 64], d: usize) -> Outcome
     requires { Scoped cat.now store.now env.now d }
     ensures { LeafRight cat.now store.now env.now d w result }
 {
