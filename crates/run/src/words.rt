@@ -1,8 +1,8 @@
 // The tree's records, read once into words: each says where its node's children stand, a TABLE's where its table's rows do.
 // A word that is asked for past the last one is 0.
-ghost use Rattle.std.specs.Prelude.{◌≡◌, ◌+◌, ◌*◌, ◌<◌, ◌≤◌, length, get_or};
+ghost use Rattle.std.specs.Prelude.{◌≡◌, ◌+◌, ◌*◌, ◌<◌, ◌≤◌, length, get_or, tt};
 ghost use Rattle.store.specs.Layout.{files_of};
-ghost use Rattle.store.specs.declared.Verdict.TheVariants.{Fine};
+ghost use Rattle.word.specs.Refusal.{fine};
 ghost use Rattle.run.specs.Words.{kind_in, op_in, a_in, b_in, c_in, PartsAre, two, three, folds, picks, end_of, EndsAre, part_b, part_c, WordFor, LayIs, LaysAre, WordsAre};
 
 // The parts of a word.
@@ -212,7 +212,7 @@ fn lay_of(first: u16, rec: u16, size: u16, rows: u16) -> u64
 
 // The words of the tables of an accepted catalogue and store.
 pub fn lays_of(cat: &[u8], store: &[u8]) -> [u64; 32]
-    requires { files_of cat.now store.now ≡ Fine }
+    requires { files_of cat.now store.now ≡ fine tt }
     ensures { LaysAre cat.now store.now result }
 {
     let n = index(word::u16_at(cat, 6));
