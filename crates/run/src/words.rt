@@ -1,6 +1,6 @@
 // The tree's records, read once into words: each says where its node's children stand, a TABLE's where its table's rows do.
 // A word that is asked for past the last one is 0.
-ghost use Rattle.std.specs.Prelude.{◌≡◌, ◌+◌, ◌*◌, ◌<◌, ◌≤◌, length, get_or, tt};
+ghost use Rattle.std.specs.Prelude.{◌≡◌, ◌+◌, ◌*◌, ◌<◌, ◌≤◌, length, get_or};
 ghost use Rattle.store.specs.Layout.{files_of};
 ghost use Rattle.word.specs.Refusal.{fine};
 ghost use Rattle.run.specs.Words.{kind_in, op_in, a_in, b_in, c_in, PartsAre, two, three, folds, picks, end_of, EndsAre, part_b, part_c, WordFor, LayIs, LaysAre, WordsAre};
