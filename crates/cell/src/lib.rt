@@ -3,10 +3,12 @@
 #![tactic(auto)]
 
 mod numbers;
+mod op;
 mod operators;
 mod types;
 
 pub use numbers::power_of_ten;
+pub use op::{NoOp, Op};
 pub use operators::{apply, as_cond, convert, is_null, negate, settled};
 pub use types::{
     binop_type, digits_of, digits_rule, format_of, kind_of, limb_type, same_type, scale_of,

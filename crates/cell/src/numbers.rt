@@ -2,9 +2,10 @@
 // The bounds that the private functions require keep every step within 64 bits.
 ghost use Rattle.std.specs.Prelude.{◌≡◌, ◌<◌, ◌≤◌, ◌-◌, ◌^◌, pos, nat_abs, ◌*ℤ◌};
 ghost use Rattle.std.specs.Int.Signed.{quot_z};
+ghost use Rattle.cell.specs.Op.{number_of};
 ghost use Rattle.cell.specs.Apply.{cut_fixed, cut_interval, cut_time, order_z, sum_z, up_to};
 
-use crate::Value;
+use crate::{Op, Value};
 
 // Stays: a table, and no `pow`, whose loop takes 6 ns a call: half as much again for the check of a store, which asks at each cell.
 /// 10 to a power that 64 bits hold.
@@ -91,22 +92,22 @@ pub fn rescaled(m: i32, s: u8, r: u8) -> i64
     scaled(m, r.saturating_sub(s)) / signed_power_of_ten(s.saturating_sub(r))
 }
 
-/// 1 plus, 2 minus.
-pub fn total(op: u8, a: i64, b: i64) -> i64
+/// Plus, or minus.
+pub fn total(op: Op, a: i64, b: i64) -> i64
     requires { (nat_abs a ≤ 2 ^ 61) × (nat_abs b ≤ 2 ^ 61) }
-    ensures { result ≡ sum_z op a b }
+    ensures { result ≡ sum_z (number_of op) a b }
 {
-    if op == 1 { a + b } else { a - b }
+    if op == Op::Plus { a + b } else { a - b }
 }
 
-/// 7 <, 8 <=, 11 >=, 12 >.
-pub fn in_order(op: u8, a: i64, b: i64) -> bool
-    ensures { result ≡ order_z op a b }
+/// Less, less or equal, greater or equal, or greater.
+pub fn in_order(op: Op, a: i64, b: i64) -> bool
+    ensures { result ≡ order_z (number_of op) a b }
 {
     match op {
-        7 => a < b,
-        8 => a <= b,
-        11 => a >= b,
+        Op::Less => a < b,
+        Op::LessOrEqual => a <= b,
+        Op::GreaterOrEqual => a >= b,
         _ => a > b,
     }
 }

@@ -2,6 +2,7 @@
 // Every public function is total; an operand of a wrong kind gives None.
 ghost use Rattle.std.specs.Prelude.{◌≡◌, cond, not, ◌≤◌, max, eqb};
 ghost use Rattle.cell.specs.Res.{bind, done, option_of, stuck};
+ghost use Rattle.cell.specs.Op.{number_of};
 ghost use Rattle.cell.specs.Values.{is_null, outcome_of, test_of};
 ghost use Rattle.cell.specs.Apply.{apply, as_cond, convert, cut_fixed, cut_interval, cut_time, equal_n, equal_v, equal_z, logic_v, negate, or_null, order_n, order_takes, order_z, product_fixed, product_interval, product_n, product_takes, ruled, settled, sum_n, sum_takes, sum_z, up_to};
 ghost use Rattle.cell.specs.declared.Value.TheVariants.{Fixed};
@@ -9,9 +10,9 @@ ghost use Rattle.cell.specs.declared.Value.TheVariants.{Fixed};
 use crate::numbers::{
     cut_fixed, cut_interval, cut_time, in_order, product_cut, raised, rescaled, scaled_cut, total,
 };
-use crate::{Outcome, Test, Value};
+use crate::{Op, Outcome, Test, Value};
 
-#[tactic(auto, unfolding(crate::specs::Values::is_null, crate::specs::Values::kind_v, crate::specs::Values::as_truth, crate::specs::Values::as_fixed, crate::specs::Values::as_time, crate::specs::Values::as_interval, crate::specs::Values::as_class, crate::specs::Apply::or_null, crate::specs::Apply::sum_n, crate::specs::Apply::product_n, crate::specs::Apply::product_fixed, crate::specs::Apply::product_interval, crate::specs::Apply::order_n, crate::specs::Apply::equal_n, crate::specs::Apply::equal_v, crate::specs::Apply::settled, crate::specs::Apply::logic_v, crate::specs::Apply::as3, crate::specs::Apply::of3, crate::specs::Apply::as_cond, crate::specs::Apply::negate, crate::specs::Apply::convert, crate::specs::Apply::apply, crate::specs::Res::bind, crate::specs::Res::option_of))]
+#[tactic(auto, unfolding(crate::specs::Values::is_null, crate::specs::Values::kind_v, crate::specs::Values::as_truth, crate::specs::Values::as_fixed, crate::specs::Values::as_time, crate::specs::Values::as_interval, crate::specs::Values::as_class, crate::specs::Apply::or_null, crate::specs::Apply::sum_n, crate::specs::Apply::product_n, crate::specs::Apply::order_n, crate::specs::Apply::equal_n, crate::specs::Apply::equal_v, crate::specs::Apply::settled, crate::specs::Apply::logic_v, crate::specs::Apply::as3, crate::specs::Apply::of3, crate::specs::Apply::as_cond, crate::specs::Apply::negate, crate::specs::Apply::convert, crate::specs::Apply::apply, crate::specs::Res::bind, crate::specs::Res::option_of))]
 impl Value {
     /// Whether it is null.
     pub fn is_null(self) -> bool
@@ -21,8 +22,8 @@ impl Value {
     }
 
     /// The sum or the difference of two fixed values, at so many digits and the larger scale.
-    fn sum_fixed(op: u8, digits: u8, s: u8, m: i32, r: u8, n: i32) -> Option<Value>
-        ensures { result ≡ option_of (sum_n op digits (Fixed s m) (Fixed r n)) }
+    fn sum_fixed(op: Op, digits: u8, s: u8, m: i32, r: u8, n: i32) -> Option<Value>
+        ensures { result ≡ option_of (sum_n (number_of op) digits (Fixed s m) (Fixed r n)) }
     {
         if digits > 9 || s > 4 || r > 4 {
             return None;
@@ -36,8 +37,8 @@ impl Value {
     }
 
     /// Plus and minus.
-    fn sum(op: u8, digits: u8, left: Value, right: Value) -> Option<Value>
-        ensures { result ≡ option_of (or_null sum_takes left right (sum_n op digits left right)) }
+    fn sum(op: Op, digits: u8, left: Value, right: Value) -> Option<Value>
+        ensures { result ≡ option_of (or_null sum_takes left right (sum_n (number_of op) digits left right)) }
     {
         match (left, right) {
             (Value::Null, Value::Null | Value::Interval(_))
@@ -60,14 +61,15 @@ impl Value {
     }
 
     /// The product or the quotient of two fixed values, at so many digits and the larger scale.
-    fn product_fixed(op: u8, digits: u8, s: u8, m: i32, r: u8, n: i32) -> Option<Value>
-        ensures { result ≡ option_of (product_n op digits (Fixed s m) (Fixed r n)) }
+    #[tactic(auto, unfolding(crate::specs::Values::as_fixed, crate::specs::Apply::product_n, crate::specs::Apply::product_fixed, crate::specs::Res::bind, crate::specs::Res::option_of))]
+    fn product_fixed(op: Op, digits: u8, s: u8, m: i32, r: u8, n: i32) -> Option<Value>
+        ensures { result ≡ option_of (product_n (number_of op) digits (Fixed s m) (Fixed r n)) }
     {
         if digits > 9 || s > 4 || r > 4 {
             return None;
         }
         let scale = s.max(r);
-        if op == 3 {
+        if op == Op::Times {
             return Some(cut_fixed(digits, scale, product_cut(m, n, s.min(r))));
         }
         if n == 0 {
@@ -77,11 +79,12 @@ impl Value {
     }
 
     /// An interval by a fixed value m at scale s.
-    fn product_interval(op: u8, interval: i32, s: u8, m: i32) -> Value
+    #[tactic(auto, unfolding(crate::specs::Apply::product_interval))]
+    fn product_interval(op: Op, interval: i32, s: u8, m: i32) -> Value
         requires { s ≤ 4 }
-        ensures { result ≡ product_interval op interval s m }
+        ensures { result ≡ product_interval (number_of op) interval s m }
     {
-        if op == 3 {
+        if op == Op::Times {
             return cut_interval(product_cut(interval, m, s));
         }
         if m == 0 {
@@ -91,8 +94,8 @@ impl Value {
     }
 
     /// Times and divide.
-    fn product(op: u8, digits: u8, left: Value, right: Value) -> Option<Value>
-        ensures { result ≡ option_of (or_null product_takes left right (product_n op digits left right)) }
+    fn product(op: Op, digits: u8, left: Value, right: Value) -> Option<Value>
+        ensures { result ≡ option_of (or_null product_takes left right (product_n (number_of op) digits left right)) }
     {
         match (left, right) {
             (Value::Null | Value::Interval(_), Value::Null) => Some(Value::Null),
@@ -109,8 +112,8 @@ impl Value {
     }
 
     /// The order of two fixed values.
-    fn order_fixed(op: u8, s: u8, m: i32, r: u8, n: i32) -> Option<Value>
-        ensures { result ≡ option_of (bind (order_n op (Fixed s m) (Fixed r n)) (λ b. done (Value.Truth b))) }
+    fn order_fixed(op: Op, s: u8, m: i32, r: u8, n: i32) -> Option<Value>
+        ensures { result ≡ option_of (bind (order_n (number_of op) (Fixed s m) (Fixed r n)) (λ b. done (Value.Truth b))) }
     {
         if s > 4 || r > 4 {
             return None;
@@ -119,9 +122,9 @@ impl Value {
         Some(Value::Truth(in_order(op, raised(m, s, scale), raised(n, r, scale))))
     }
 
-    /// 7 <, 8 <=, 11 >=, 12 >.
-    fn order(op: u8, left: Value, right: Value) -> Option<Value>
-        ensures { result ≡ option_of (or_null order_takes left right (bind (order_n op left right) (λ b. done (Value.Truth b)))) }
+    /// A test of order.
+    fn order(op: Op, left: Value, right: Value) -> Option<Value>
+        ensures { result ≡ option_of (or_null order_takes left right (bind (order_n (number_of op) left right) (λ b. done (Value.Truth b)))) }
     {
         match (left, right) {
             (Value::Null, Value::Null | Value::Time(_) | Value::Interval(_))
@@ -164,12 +167,12 @@ impl Value {
         }
     }
 
-    /// 9 =, 10 <>.
-    fn equality(op: u8, left: Value, right: Value) -> Option<Value>
-        ensures { result ≡ option_of (bind (equal_v left right) (λ b. done (Value.Truth (cond (eqb op 9) b (not b))))) }
+    /// Equal, or not equal.
+    fn equality(op: Op, left: Value, right: Value) -> Option<Value>
+        ensures { result ≡ option_of (bind (equal_v left right) (λ b. done (Value.Truth (cond (eqb (number_of op) 9) b (not b))))) }
     {
         let equal = Value::equal(left, right)?;
-        Some(Value::Truth(if op == 9 { equal } else { !equal }))
+        Some(Value::Truth(if op == Op::Equal { equal } else { !equal }))
     }
 
     /// Whether the left operand of and, or decides alone.
@@ -177,22 +180,22 @@ impl Value {
         ensures { result ≡ settled op self }
     {
         match self {
-            Value::Truth(truth) => (op == 5 && !truth) || (op == 6 && truth),
+            Value::Truth(truth) => (op == Op::And as u8 && !truth) || (op == Op::Or as u8 && truth),
             _ => false,
         }
     }
 
-    /// 5 and, 6 or: a truth that doesn't decide leaves it to the right operand; beside null only one that decides is known.
-    fn logic(op: u8, left: Value, right: Value) -> Option<Value>
-        requires { (5 ≤ op) × (op ≤ 6) }
-        ensures { result ≡ option_of (logic_v op left right) }
+    /// And, or: a truth that doesn't decide leaves it to the right operand; beside null only one that decides is known.
+    fn logic(op: Op, left: Value, right: Value) -> Option<Value>
+        requires { (5 ≤ number_of op) × (number_of op ≤ 6) }
+        ensures { result ≡ option_of (logic_v (number_of op) left right) }
     {
-        if left.settles(op) {
+        if left.settles(op as u8) {
             return Some(left);
         }
         match (left, right) {
             (Value::Truth(_), Value::Null | Value::Truth(_)) => Some(right),
-            (Value::Null, Value::Truth(_)) if right.settles(op) => Some(right),
+            (Value::Null, Value::Truth(_)) if right.settles(op as u8) => Some(right),
             (Value::Null, Value::Null | Value::Truth(_)) => Some(Value::Null),
             _ => None,
         }
@@ -202,13 +205,17 @@ impl Value {
     pub fn apply(op: u8, digits: u8, left: Value, right: Value) -> Option<Value>
         ensures { result ≡ option_of (apply op digits left right) }
     {
+        let Ok(op) = Op::try_from(op) else {
+            return None;
+        };
         match op {
-            1..=2 => Value::sum(op, digits, left, right),
-            3..=4 => Value::product(op, digits, left, right),
-            5..=6 => Value::logic(op, left, right),
-            9..=10 => Value::equality(op, left, right),
-            7..=12 => Value::order(op, left, right),
-            _ => None,
+            Op::Plus | Op::Minus => Value::sum(op, digits, left, right),
+            Op::Times | Op::Divide => Value::product(op, digits, left, right),
+            Op::And | Op::Or => Value::logic(op, left, right),
+            Op::Equal | Op::NotEqual => Value::equality(op, left, right),
+            Op::Less | Op::LessOrEqual | Op::GreaterOrEqual | Op::Greater => Value::order(
+                op, left, right,
+            ),
         }
     }
 
