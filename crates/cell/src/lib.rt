@@ -12,7 +12,7 @@ pub use op::{NoOp, Op};
 pub use operators::{apply, as_cond, convert, is_null, negate, settled};
 pub use types::{
     binop_type, digits_of, digits_rule, format_of, kind_of, limb_type, same_type, scale_of,
-    type_by, type_rule, word_of,
+    type_by, type_rule,
 };
 
 /// The type of a value: a fixed one's digits and scale, the format of a time or an interval.
@@ -57,7 +57,8 @@ pub enum Test {
     Is(bool),
 }
 
-#[derive(Drop)]
+/// A value and its class.
+#[derive(Clone, Copy, PartialEq, Eq, Debug)]
 pub struct Cell {
     pub value: Value,
     pub class: u16,

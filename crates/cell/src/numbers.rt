@@ -66,7 +66,7 @@ pub fn raised(m: i32, s: u8, t: u8) -> i64
 }
 
 /// m times n, divided by 10^k.
-#[tactic(auto, using(crate::proofs::Tens::tens))]
+#[tactic(auto, using(crate::proofs::Tens::products))]
 pub fn product_cut(m: i32, n: i32, k: u8) -> i64
     requires { k < 10 }
     ensures { result ≡ quot_z (m *ℤ n) (pos (10 ^ k)) }
@@ -138,8 +138,5 @@ pub fn cut_time(m: i64) -> Value
 pub fn cut_interval(m: i64) -> Value
     ensures { result ≡ cut_interval m }
 {
-    match i32::try_from(m) {
-        Ok(m) => Value::Interval(m),
-        Err(_) => Value::Null,
-    }
+    i32::try_from(m).map_or(Value::Null, Value::Interval)
 }

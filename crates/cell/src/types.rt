@@ -44,18 +44,20 @@ pub fn type_by(word: u16) -> Type
     }
 }
 
-// The word of a type.
-#[tactic(auto, unfolding(crate::specs::Types::word_of))]
-pub fn word_of(t: Type) -> u16
-    ensures { result ≡ word_of t }
-{
-    match t {
-        Type::Null => 0,
-        Type::Boolean => 256,
-        Type::Fixed(p, s) => 512 + (16 * u16::from(p) + u16::from(s)),
-        Type::Time(f) => 768 + u16::from(f),
-        Type::Interval(f) => 1024 + u16::from(f),
-        Type::Class => 1280,
+impl From<Type> for u16 {
+    ghost from_gives = { λ t word. word ≡ word_of t };
+
+    /// The word of a type.
+    #[tactic(auto, unfolding(crate::specs::Types::word_of))]
+    fn from(t: Type) -> u16 {
+        match t {
+            Type::Null => 0,
+            Type::Boolean => 256,
+            Type::Fixed(p, s) => 512 + (16 * u16::from(p) + u16::from(s)),
+            Type::Time(f) => 768 + u16::from(f),
+            Type::Interval(f) => 1024 + u16::from(f),
+            Type::Class => 1280,
+        }
     }
 }
 
