@@ -98,7 +98,7 @@ fn counts(fields: Record) -> bool
     ensures { result ≡ counts fields }
 {
     let digits = fields.op / 16;
-    ((1 <= digits) & (digits <= 9)) & ((fields.op % 16 == 0) & ((fields.b == 0) & (fields.c == 0)))
+    (1..=9).contains(&digits) & ((fields.op % 16 == 0) & ((fields.b == 0) & (fields.c == 0)))
 }
 
 /// A signed value: low half b, high half c.
@@ -130,6 +130,7 @@ pub(crate) fn is_in_rule(fields: Record) -> bool
     let op = fields.op;
     let a = fields.a;
     let plain = (op == 0) & (fields.c == 0);
+    // Stays: comparisons (reason c). With `(1..=4).contains(&a)` the arms that test a second range are left open, also by a law for each kind.
     let over = (1 <= a) & (a <= 4);
     // Stays: an arm for each kind (reason b). Arms that share a pattern, as `14 | 15`, are compiled to a ladder of tests, and the check of a view then took a fifth longer.
     match fields.kind {
@@ -351,7 +352,7 @@ pub fn check(view: &[u8]) -> Result<usize, Refusal>
         });
     }
     let count = word::u16_at(view, 6);
-    if !(((1 <= count) & (count <= 1024)) & (view.len() == 8 + 8 * usize::from(count))) {
+    if !(1..=1024).contains(&count) || view.len() != 8 + 8 * usize::from(count) {
         return Err(Refusal {
             reason: Reason::ViewLength,
             place: 0,
