@@ -28,6 +28,7 @@ pub fn type_rule(word: u16) -> bool
     }
 }
 
+// Stays: Null and no Option for a word that says no type: the definition of a column's type says so for every word.
 /// The type that a word of the catalogue says; Null where it says none.
 #[tactic(auto, unfolding(crate::specs::Types::type_by))]
 pub fn type_by(word: u16) -> Type
@@ -200,6 +201,7 @@ impl Type {
         }
     }
 
+    // Stays: one decision over the operators' numbers, in three ranges, as the project's rules name it; so the numbers go on to the two functions above.
     /// The type of an operator over two types, where it has one.
     pub fn binop(op: u8, left: Type, right: Type) -> Option<Type>
         ensures { result ≡ option_of (binop_type op left right) }
