@@ -49,16 +49,6 @@ fn record(cat: &[u8], i: usize) -> Record
     }
 }
 
-// Whether the class at a place keeps what record i says.
-#[tactic(auto, unfolding(crate::specs::Layout::class_rule, word::specs::Record::rec_at))]
-fn class_rule(cat: &[u8], i: usize, store: &[u8], at: usize) -> bool
-    requires { (i < 2080) × (at + 2 ≤ length store.now) }
-    ensures { result ≡ class_rule cat.now i store.now at }
-{
-    let here = record(cat, i);
-    class::Info::by_op(here.op, here.b).admits(word::u16_at(store, at))
-}
-
 // Whether the bits of a value keep the rule of its type, which is given by its word, and of its null mark.
 #[tactic(auto, using(crate::proofs::Laws::values))]
 fn value_rule(ty: u16, mark: u8, bits: u32) -> bool
@@ -75,19 +65,6 @@ fn value_rule(ty: u16, mark: u8, bits: u32) -> bool
         cell::Type::Class => bits <= 65535,
         _ => true,
     }
-}
-
-// Whether the cell at a place keeps the rule of column record j.
-#[tactic(auto, unfolding(crate::specs::Layout::cell_rule, word::specs::Record::rec_at))]
-fn cell_rule(cat: &[u8], j: usize, store: &[u8], at: usize) -> bool
-    requires { (j < 2080) × (at + 8 ≤ length store.now) }
-    ensures { result ≡ cell_rule cat.now j store.now at }
-{
-    let mark = store[at];
-    mark <= 1
-        && store[at + 1] == 0
-        && class_rule(cat, j, store, at + 2)
-        && value_rule(record(cat, j).c, mark, word::u32_at(store, at + 4))
 }
 
 /// Where the cell of column number j stands in the row at a place.
@@ -122,31 +99,6 @@ pub fn row_size(cat: &[u8], n: usize, i: usize) -> usize
     cell_place(0, columns_from(cat, n, i + 1))
 }
 
-// The place behind record i's table.
-#[tactic(auto, using(crate::proofs::Laws::all_few), unfolding(crate::specs::Layout::place_after, word::specs::Record::rec_at))]
-fn place_after(cat: &[u8], n: usize, store: &[u8], i: usize, at: usize) -> usize
-    requires { (n ≤ 2080) × (i < n) × (at ≤ 8 + 1090650114 * i) }
-    ensures { (result ≡ place_after cat.now n store.now i at) × (result ≤ 8 + 1090650114 * (i + 1)) }
-{
-    if record(cat, i).kind == 1 {
-        return at + 2 + usize::from(half(store, at)) * row_size(cat, n, i);
-    }
-    at
-}
-
-// The place behind the last table.
-#[tactic(auto, using(crate::proofs::Laws::ends))]
-fn store_end(cat: &[u8], n: usize, store: &[u8]) -> usize
-    requires { n ≤ 2080 }
-    ensures { result ≡ end_from cat.now n store.now n 0 8 }
-{
-    let mut at = 8;
-    for i in 0..n {
-        at = place_after(cat, n, store, i, at);
-    }
-    at
-}
-
 // The refusal of a row class or a cell, at its first byte.
 fn broken(place: usize) -> Refusal
     requires { place < 65536 }
@@ -159,72 +111,133 @@ fn broken(place: usize) -> Refusal
     }
 }
 
-// The first fault in the cells of the row at a place, whose columns stand from record i on.
-#[tactic(auto, using(crate::proofs::Laws::cells), unfolding(word::specs::Record::rec_at))]
-fn check_cells(cat: &[u8], n: usize, store: &[u8], i: usize, at: usize) -> Result<(), Refusal>
-    requires n_bound { (n ≤ 2080) × (i ≤ n) }
-    requires inside { cell_place at (columns_from cat.now (n - i) i) ≤ length store.now }
-    requires short { length store.now ≤ 65528 }
-    ensures { said result ≡ verdict_by (cells_fault cat.now store.now (n - i) i at 0) }
-{
-    for k in i..n {
-        if record(cat, k).kind != 2 {
-            return Ok(());
-        }
-        let place = cell_place(at, k - i);
-        if !cell_rule(cat, k, store, place) {
-            return Err(broken(place));
-        }
-    }
-    Ok(())
+// A store, laid out by a catalogue of n records.
+#[derive(Clone, Copy)]
+struct Layout<'a> {
+    cat: &'a [u8],
+    n: usize,
+    store: &'a [u8],
+    ghost few: { n ≤ 2080 },
 }
 
-// The first fault in the row at a place, of table record i.
-#[tactic(auto, using(crate::proofs::Laws::rows))]
-fn check_row(cat: &[u8], n: usize, store: &[u8], i: usize, at: usize) -> Result<(), Refusal>
-    requires n_bound { (n ≤ 2080) × (i < n) × (0 < at) }
-    requires inside { at + row_size cat.now n i ≤ length store.now }
-    requires short { length store.now ≤ 65528 }
-    ensures { said result ≡ verdict_by (row_fault cat.now n store.now i at) }
-{
-    if !class_rule(cat, i, store, at) {
-        return Err(broken(at));
+impl<'a> Layout<'a> {
+    // Whether the class at a place keeps what record i says.
+    #[tactic(auto, unfolding(crate::specs::Layout::class_rule, word::specs::Record::rec_at))]
+    fn class_rule(&self, i: usize, at: usize) -> bool
+        requires { (i < 2080) × (at + 2 ≤ length self.now.store.now) }
+        ensures { result ≡ class_rule self.now.cat.now i self.now.store.now at }
+    {
+        let here = record(self.cat, i);
+        class::Info::by_op(here.op, here.b).admits(word::u16_at(self.store, at))
     }
-    check_cells(cat, n, store, i + 1, at)
-}
 
-// The first fault in the rows of table record i, whose row count stands at a place.
-#[tactic(auto, using(crate::proofs::Laws::rows))]
-fn check_rows(cat: &[u8], n: usize, store: &[u8], i: usize, at: usize) -> Result<(), Refusal>
-    requires n_bound { (n ≤ 2080) × (i < n) }
-    requires inside { at + 2 + u16_at store.now at * row_size cat.now n i ≤ length store.now }
-    requires short { length store.now ≤ 65528 }
-    ensures { said result ≡ verdict_by (rows_fault cat.now n store.now i (u16_at store.now at) (at + 2) (row_size cat.now n i)) }
-{
-    let rows = usize::from(word::u16_at(store, at));
-    let size = row_size(cat, n, i);
-    for r in 0..rows {
-        check_row(cat, n, store, i, at + 2 + r * size)?;
+    // Whether the cell at a place keeps the rule of column record j.
+    #[tactic(auto, unfolding(crate::specs::Layout::cell_rule, word::specs::Record::rec_at))]
+    fn cell_rule(&self, j: usize, at: usize) -> bool
+        requires { (j < 2080) × (at + 8 ≤ length self.now.store.now) }
+        ensures { result ≡ cell_rule self.now.cat.now j self.now.store.now at }
+    {
+        let mark = self.store[at];
+        mark <= 1
+            && self.store[at + 1] == 0
+            && self.class_rule(j, at + 2)
+            && value_rule(
+                record(self.cat, j).c,
+                mark,
+                word::u32_at(self.store, at + 4),
+            )
     }
-    Ok(())
-}
 
-// The first fault in the tables of n records, all of which stand inside the store.
-#[tactic(auto, using(crate::proofs::Laws::faults), unfolding(crate::specs::Layout::table_fault, word::specs::Record::rec_at))]
-fn check_tables(cat: &[u8], n: usize, store: &[u8]) -> Result<(), Refusal>
-    requires n_bound { n ≤ 2080 }
-    requires ends { end_from cat.now n store.now n 0 8 ≡ length store.now }
-    requires short { length store.now ≤ 65528 }
-    ensures { said result ≡ verdict_by (fault_from cat.now n store.now n 0 8) }
-{
-    let mut at = 8;
-    for i in 0..n {
-        if record(cat, i).kind == 1 {
-            check_rows(cat, n, store, i, at)?;
+    // The place behind record i's table.
+    #[tactic(auto, using(crate::proofs::Laws::all_few), unfolding(crate::specs::Layout::place_after, word::specs::Record::rec_at))]
+    fn place_after(&self, i: usize, at: usize) -> usize
+        requires { (i < self.now.n) × (at ≤ 8 + 1090650114 * i) }
+        ensures { (result ≡ place_after self.now.cat.now self.now.n self.now.store.now i at) × (result ≤ 8 + 1090650114 * (i + 1)) }
+    {
+        if record(self.cat, i).kind == 1 {
+            return at + 2 + usize::from(half(self.store, at)) * row_size(self.cat, self.n, i);
         }
-        at = place_after(cat, n, store, i, at);
+        at
     }
-    Ok(())
+
+    // The place behind the last table.
+    #[tactic(auto, using(crate::proofs::Laws::ends))]
+    fn end(&self) -> usize
+        ensures { result ≡ end_from self.now.cat.now self.now.n self.now.store.now self.now.n 0 8 }
+    {
+        let mut at = 8;
+        for i in 0..self.n {
+            at = self.place_after(i, at);
+        }
+        at
+    }
+
+    // The first fault in the cells of the row at a place, whose columns stand from record i on.
+    #[tactic(auto, using(crate::proofs::Laws::cells), unfolding(word::specs::Record::rec_at))]
+    fn check_cells(&self, i: usize, at: usize) -> Result<(), Refusal>
+        requires n_bound { i ≤ self.now.n }
+        requires inside { cell_place at (columns_from self.now.cat.now (self.now.n - i) i) ≤ length self.now.store.now }
+        requires short { length self.now.store.now ≤ 65528 }
+        ensures { said result ≡ verdict_by (cells_fault self.now.cat.now self.now.store.now (self.now.n - i) i at 0) }
+    {
+        for k in i..self.n {
+            if record(self.cat, k).kind != 2 {
+                return Ok(());
+            }
+            let place = cell_place(at, k - i);
+            if !self.cell_rule(k, place) {
+                return Err(broken(place));
+            }
+        }
+        Ok(())
+    }
+
+    // The first fault in the row at a place, of table record i.
+    #[tactic(auto, using(crate::proofs::Laws::rows))]
+    fn check_row(&self, i: usize, at: usize) -> Result<(), Refusal>
+        requires n_bound { (i < self.now.n) × (0 < at) }
+        requires inside { at + row_size self.now.cat.now self.now.n i ≤ length self.now.store.now }
+        requires short { length self.now.store.now ≤ 65528 }
+        ensures { said result ≡ verdict_by (row_fault self.now.cat.now self.now.n self.now.store.now i at) }
+    {
+        if !self.class_rule(i, at) {
+            return Err(broken(at));
+        }
+        self.check_cells(i + 1, at)
+    }
+
+    // The first fault in the rows of table record i, whose row count stands at a place.
+    #[tactic(auto, using(crate::proofs::Laws::rows))]
+    fn check_rows(&self, i: usize, at: usize) -> Result<(), Refusal>
+        requires n_bound { i < self.now.n }
+        requires inside { at + 2 + u16_at self.now.store.now at * row_size self.now.cat.now self.now.n i ≤ length self.now.store.now }
+        requires short { length self.now.store.now ≤ 65528 }
+        ensures { said result ≡ verdict_by (rows_fault self.now.cat.now self.now.n self.now.store.now i (u16_at self.now.store.now at) (at + 2) (row_size self.now.cat.now self.now.n i)) }
+    {
+        let rows = usize::from(word::u16_at(self.store, at));
+        let size = row_size(self.cat, self.n, i);
+        for r in 0..rows {
+            self.check_row(i, at + 2 + r * size)?;
+        }
+        Ok(())
+    }
+
+    // The first fault in the tables of n records, all of which stand inside the store.
+    #[tactic(auto, using(crate::proofs::Laws::faults), unfolding(crate::specs::Layout::table_fault, word::specs::Record::rec_at))]
+    fn check_tables(&self) -> Result<(), Refusal>
+        requires ends { end_from self.now.cat.now self.now.n self.now.store.now self.now.n 0 8 ≡ length self.now.store.now }
+        requires short { length self.now.store.now ≤ 65528 }
+        ensures { said result ≡ verdict_by (fault_from self.now.cat.now self.now.n self.now.store.now self.now.n 0 8) }
+    {
+        let mut at = 8;
+        for i in 0..self.n {
+            if record(self.cat, i).kind == 1 {
+                self.check_rows(i, at)?;
+            }
+            at = self.place_after(i, at);
+        }
+        Ok(())
+    }
 }
 
 /// The check of a store over a catalogue of n records with so many tables: a refusal of a row class or a cell has its first byte.
@@ -240,13 +253,14 @@ pub fn check_over(cat: &[u8], n: usize, tables: usize, store: &[u8]) -> Result<(
         });
     }
     let count = usize::from(word::u16_at(store, 6));
-    if 65528 < store.len() || count != tables || store_end(cat, n, store) != store.len() {
+    let layout = Layout { cat, n, store };
+    if 65528 < store.len() || count != tables || layout.end() != store.len() {
         return Err(Refusal {
             reason: Reason::StoreLength,
             place: 0,
         });
     }
-    check_tables(cat, n, store)
+    layout.check_tables()
 }
 
 /// The check of both files, for any bytes: first the catalogue, then the store over it.

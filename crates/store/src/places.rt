@@ -8,7 +8,7 @@ ghost use Rattle.store.specs.Layout.{place_of, end_from};
 ghost use Rattle.store.specs.Rows.{value_of, cell_at};
 ghost use Rattle.store.specs.Spans.{spans_over, spans_array, spans_of, blank};
 
-use crate::{half, place_after, record, row_size};
+use crate::{Layout, half, record, row_size};
 
 // Record i, if it is a table's, puts its three numbers at the places of table j; past the last place they are left out.
 fn note(
@@ -39,18 +39,19 @@ fn note(
     j + 1
 }
 
-// The spans of the tables among n records.
+/// The spans of the tables among n records.
 pub fn spans(cat: &[u8], n: usize, store: &[u8]) -> [u16; 96]
     requires { (n ≤ 2080) × (end_from cat.now n store.now n 0 8 ≤ 65528) }
     ensures { result ≡ spans_array cat.now n store.now }
 {
+    let layout = Layout { cat, n, store };
     let mut slots = [0u16; 96];
     let mut j: usize = 0;
     let mut i: usize = 0;
     let mut at: usize = 8;
     while i < n {
         j = note(cat, n, store, i, at, &mut slots, j);
-        at = place_after(cat, n, store, i, at);
+        at = layout.place_after(i, at);
         i += 1;
     }
     slots
@@ -78,6 +79,7 @@ pub fn table_spans(cat: &[u8], n: usize, store: &[u8]) -> [Span; 32]
     requires { (n ≤ 2080) × (end_from cat.now n store.now n 0 8 ≤ 65528) }
     ensures { result ≡ spans_of cat.now n store.now }
 {
+    let layout = Layout { cat, n, store };
     let mut spans = [Span::BLANK; 32];
     let mut tables = 0;
     let mut at = 8;
@@ -92,12 +94,12 @@ pub fn table_spans(cat: &[u8], n: usize, store: &[u8]) -> [Span; 32]
             }
             tables += 1;
         }
-        at = place_after(cat, n, store, i, at);
+        at = layout.place_after(i, at);
     }
     spans
 }
 
-// The class of the row at a place.
+/// The class of the row at a place.
 pub fn row_class(store: &[u8], at: usize) -> u16
     requires { at + 2 ≤ length store.now }
     ensures { result ≡ u16_at store.now at }
@@ -105,7 +107,7 @@ pub fn row_class(store: &[u8], at: usize) -> u16
     word::u16_at(store, at)
 }
 
-// The class of the cell at a place.
+/// The class of the cell at a place.
 pub fn cell_class(store: &[u8], place: usize) -> u16
     requires { place + 8 ≤ length store.now }
     ensures { result ≡ u16_at store.now (place + 2) }
@@ -113,7 +115,7 @@ pub fn cell_class(store: &[u8], place: usize) -> u16
     word::u16_at(store, place + 2)
 }
 
-// Whether the cell at a place is null.
+/// Whether the cell at a place is null.
 pub fn cell_null(store: &[u8], place: usize) -> bool
     requires { place + 8 ≤ length store.now }
     ensures { result ≡ eqb (get_or store.now place 0) 1 }
@@ -121,7 +123,7 @@ pub fn cell_null(store: &[u8], place: usize) -> bool
     store[place] == 1
 }
 
-// The 32 bits of the value of the cell at a place.
+/// The 32 bits of the value of the cell at a place.
 pub fn cell_bits(store: &[u8], place: usize) -> u32
     requires { place + 8 ≤ length store.now }
     ensures { result ≡ u32_at store.now (place + 4) }
@@ -130,20 +132,23 @@ pub fn cell_bits(store: &[u8], place: usize) -> u32
 }
 
 // The value of a type by its bits.
+#[tactic(auto, using(word::proofs::Laws::bits_signed), unfolding(crate::specs::Rows::value_of))]
 fn value_of(t: cell::Type, bits: u32) -> cell::Value
     ensures { result ≡ value_of t (signed32 bits) }
 {
+    let value = word::to_signed(bits);
     match t {
         cell::Type::Null => cell::Value::Null,
-        cell::Type::Boolean => cell::Value::Truth((bits == 1) | (bits == 4294967295)),
-        cell::Type::Fixed(p, s) => cell::Value::Fixed(s, word::to_signed(bits)),
-        cell::Type::Time(_) => cell::Value::Time(word::to_signed(bits)),
-        cell::Type::Interval(_) => cell::Value::Interval(word::to_signed(bits)),
+        cell::Type::Boolean => cell::Value::Truth(value.unsigned_abs() == 1),
+        cell::Type::Fixed(_, scale) => cell::Value::Fixed(scale, value),
+        cell::Type::Time(_) => cell::Value::Time(value),
+        cell::Type::Interval(_) => cell::Value::Interval(value),
         cell::Type::Class => cell::Value::Class((bits % 65536) as u16),
     }
 }
 
-// The value of the cell at a place, of its column's type.
+/// The value of the cell at a place, of its column's type.
+#[tactic(auto, unfolding(crate::specs::Rows::cell_at, word::specs::Bytes::i32_at))]
 pub fn cell_value(store: &[u8], t: cell::Type, place: usize) -> cell::Value
     requires { place + 8 ≤ length store.now }
     ensures { result ≡ (cell_at store.now t place).value }
