@@ -10,94 +10,77 @@ ghost use Rattle.resolve.specs.Sizes.{weighed, joins_w, join_all_w, choice_w, ro
 ghost use Rattle.resolve.specs.Steps.{class_of, stopped, agg_w, refs_to, exists_k, single_k, exists_t, single_t};
 ghost use Rattle.resolve.specs.Claims.{Opening, asked_of, count_of};
 
-use crate::steps::{chosen, class_of, joined, made, plus, weigh};
+use crate::steps::plus;
 use crate::totals::{fold_type, pick_type};
 use crate::{Asked, Known, Typed, Weighed};
 
 // What is asked of the block that a node is; of a node that is none, a value.
+#[tactic(auto, unfolding(crate::specs::Claims::asked_of))]
 pub fn asked_of(node: view::Node) -> Asked
     ensures { result ≡ asked_of node }
 {
     match node {
-        view::Node::Exists(_, q) => Asked::Rows(q),
-        view::Node::Single(_, g) => Asked::Values(g),
-        view::Node::Const(_, _) => Asked::Values(view::Pick::Only),
-        view::Node::Binop(_) => Asked::Values(view::Pick::Only),
-        view::Node::Not => Asked::Values(view::Pick::Only),
-        view::Node::If => Asked::Values(view::Pick::Only),
-        view::Node::Table(_) => Asked::Values(view::Pick::Only),
-        view::Node::Select(_, _) => Asked::Values(view::Pick::Only),
-        view::Node::Col(_, _) => Asked::Values(view::Pick::Only),
-        view::Node::Classof(_, _) => Asked::Values(view::Pick::Only),
-        view::Node::Let(_) => Asked::Values(view::Pick::Only),
-        view::Node::Bad => Asked::Values(view::Pick::Only),
+        view::Node::Exists(_, fold) => Asked::Rows(fold),
+        view::Node::Single(_, pick) => Asked::Values(pick),
+        _ => Asked::Values(view::Pick::Only),
     }
 }
 
 // How many tables the block has that a node is; a node that is none, 0.
+#[tactic(auto, unfolding(crate::specs::Claims::count_of))]
 pub fn count_of(node: view::Node) -> u16
     ensures { result ≡ count_of node }
 {
     match node {
-        view::Node::Exists(a, _) => a,
-        view::Node::Single(a, _) => a,
-        view::Node::Const(_, _) => 0,
-        view::Node::Binop(_) => 0,
-        view::Node::Not => 0,
-        view::Node::If => 0,
-        view::Node::Table(_) => 0,
-        view::Node::Select(_, _) => 0,
-        view::Node::Col(_, _) => 0,
-        view::Node::Classof(_, _) => 0,
-        view::Node::Let(_) => 0,
-        view::Node::Bad => 0,
+        view::Node::Exists(count, _) | view::Node::Single(count, _) => count,
+        _ => 0,
     }
 }
 
 // The row classes of a block's tables, joined in order.
+#[tactic(auto, using(crate::proofs::Tables::rowed))]
 fn rows(s: scope::Scope, cat: &[u8], n: usize) -> Weighed
     requires { (8 + 8 * n ≤ length cat.now) × Among n s }
     ensures { stopped result ≡ stopped (join_all_w (rows_w (refs_to (tables_in (open_of cat.now n s))))) }
 {
     let m = scope::tables_in(s);
-    let mut w = weigh(scope::row_info(s, cat, n, 0), 1);
-    let mut j: usize = 1;
-    while j < m {
-        w = joined(w, weigh(scope::row_info(s, cat, n, j), 1));
-        j += 1;
+    let mut joined = Weighed::new(scope::row_info(s, cat, n, 0), 1);
+    for j in 1..m {
+        joined = joined.join(Weighed::new(scope::row_info(s, cat, n, j), 1));
     }
-    w
+    joined
 }
 
 // AGG over what is read at one row, of m tables, joined with the tables' class.
+#[tactic(auto, using(crate::proofs::Tables::rowed))]
 fn agg(m: u16, k: u16, w: Weighed) -> Weighed
     ensures { result ≡ stopped (agg_w m k w) }
 {
-    let i = w.info;
-    let b = class::bound_of(i);
-    let inner = weigh(class::Info::Bound(b), plus(1, plus(m, w.size)));
-    joined(inner, weigh(class::Info::Fixed(k), 1))
+    let bound = class::Info::Bound(class::bound_of(w.info));
+    Weighed::new(bound, plus(1, plus(m, w.size))).join(Weighed::new(class::Info::Fixed(k), 1))
 }
 
+#[tactic(auto, using(crate::proofs::Tables::blocked))]
 fn exists(s: scope::Scope, cat: &[u8], n: usize, f: view::Fold, x: Known) -> Known
     requires { Opening cat.now n s }
     ensures { result ≡ exists_k f (refs_to (tables_in (open_of cat.now n s))) x }
 {
     let m = scope::tables_in(s) as u16;
-    let row = joined(rows(s, cat, n), class_of(x));
+    let row = rows(s, cat, n).join(x.class());
     let w = agg(m, scope::block_class(s, cat, n), row);
-    made(fold_type(f), x.next, plus(1, plus(m, x.values)), w)
+    Known::new(fold_type(f), x.next, plus(1, plus(m, x.values)), w)
 }
 
 // What VALUE, MAX and MIN read at one row: the row classes q, the where, and the choice of the value or nothing.
+#[tactic(auto, using(crate::proofs::Tables::rowed))]
 fn at_row(q: Weighed, x: Known, y: Known) -> Weighed
     ensures { result ≡ stopped (joins_w q (class_of x ∷ choice_w x.values (class_of y) (weighed (Fixed 0) 1) ∷ [])) }
 {
-    let none = weigh(class::Info::Fixed(0), 1);
-    let choice = chosen(x.values, class_of(y), none);
-    joined(joined(q, class_of(x)), choice)
+    let none = Weighed::new(class::Info::Fixed(0), 1);
+    q.join(x.class()).join(y.class().choose(x.values, none))
 }
 
+#[tactic(auto, using(crate::proofs::Tables::blocked))]
 fn single(s: scope::Scope, cat: &[u8], n: usize, t: cell::Type, x: Known, y: Known) -> Known
     requires { Opening cat.now n s }
     ensures { result ≡ single_k t (refs_to (tables_in (open_of cat.now n s))) x y }
@@ -105,16 +88,16 @@ fn single(s: scope::Scope, cat: &[u8], n: usize, t: cell::Type, x: Known, y: Kno
     let m = scope::tables_in(s) as u16;
     let row = at_row(rows(s, cat, n), x, y);
     let w = agg(m, scope::block_class(s, cat, n), row);
-    made(t, y.next, plus(1, plus(m, plus(x.values, y.values))), w)
+    Known::new(t, y.next, plus(1, plus(m, plus(x.values, y.values))), w)
 }
 
 // EXISTS and COUNT.
+#[tactic(auto, using(crate::proofs::Tables::blocked))]
 pub fn with_exists(s: scope::Scope, cat: &[u8], n: usize, at: u16, f: view::Fold, x: Known) -> Typed
     requires { Opening cat.now n s }
     ensures { result ≡ exists_t at f (refs_to (tables_in (open_of cat.now n s))) x }
 {
-    let t = x.ty;
-    if cell::kind_of(t) == 1 {
+    if cell::kind_of(x.ty) == 1 {
         Typed::Is(exists(s, cat, n, f, x))
     } else {
         Typed::Refused(9, at)
@@ -122,6 +105,7 @@ pub fn with_exists(s: scope::Scope, cat: &[u8], n: usize, at: u16, f: view::Fold
 }
 
 // VALUE, MAX and MIN.
+#[tactic(auto, using(crate::proofs::Tables::blocked))]
 pub fn with_single(
     s: scope::Scope,
     cat: &[u8],
@@ -134,10 +118,8 @@ pub fn with_single(
     requires { Opening cat.now n s }
     ensures { result ≡ single_t at g (refs_to (tables_in (open_of cat.now n s))) x y }
 {
-    let r = x.ty;
-    let t = y.ty;
-    if cell::kind_of(r) == 1 {
-        match pick_type(g, t) {
+    if cell::kind_of(x.ty) == 1 {
+        match pick_type(g, y.ty) {
             cell::Judged::Is(u) => Typed::Is(single(s, cat, n, u, x, y)),
             cell::Judged::Broken => Typed::Refused(9, at),
         }
@@ -147,25 +129,26 @@ pub fn with_single(
 }
 
 // What is known of a block's class: AGG is a tree even over a fixed class; k is the tables' class.
+#[tactic(auto, using(crate::proofs::Tables::informed))]
 fn agg_info(row: class::Info, k: u16) -> class::Info
     ensures { result ≡ join_i (Bound (bound_of row)) (Fixed k) }
 {
-    let b = class::bound_of(row);
-    class::joined(class::Info::Bound(b), class::Info::Fixed(k))
+    let bound = class::Info::Bound(class::bound_of(row));
+    class::joined(bound, class::Info::Fixed(k))
 }
 
 // The same of EXISTS and COUNT, from what is known of the where's class.
+#[tactic(auto, using(crate::proofs::Tables::informed))]
 pub fn exists_info(s: scope::Scope, cat: &[u8], n: usize, x: class::Info) -> class::Info
     requires { Opening cat.now n s }
     ensures { result ≡ block_i (refs_to (tables_in (open_of cat.now n s))) (x ∷ []) }
 {
-    let q = rows(s, cat, n);
-    let i = q.info;
-    let k = scope::block_class(s, cat, n);
-    agg_info(class::joined(i, x), k)
+    let row = class::joined(rows(s, cat, n).info, x);
+    agg_info(row, scope::block_class(s, cat, n))
 }
 
 // The same of VALUE, MAX and MIN, from what is known of the where's class and of the value's.
+#[tactic(auto, using(crate::proofs::Tables::informed))]
 pub fn single_info(
     s: scope::Scope,
     cat: &[u8],
@@ -176,10 +159,7 @@ pub fn single_info(
     requires { Opening cat.now n s }
     ensures { result ≡ block_i (refs_to (tables_in (open_of cat.now n s))) (x ∷ choice_i y (Fixed 0) ∷ []) }
 {
-    let q = rows(s, cat, n);
-    let i = q.info;
-    let k = scope::block_class(s, cat, n);
     let choice = class::chosen(y, class::Info::Fixed(0));
-    let part = class::joined(i, x);
-    agg_info(class::joined(part, choice), k)
+    let part = class::joined(rows(s, cat, n).info, x);
+    agg_info(class::joined(part, choice), scope::block_class(s, cat, n))
 }

@@ -51,7 +51,7 @@ pub enum Asked {
 }
 
 // What is known of a class, and how many records its tree takes.
-#[derive(Drop)]
+#[derive(Clone, Copy)]
 pub struct Weighed {
     pub info: class::Info,
     pub size: u16,
@@ -111,7 +111,7 @@ pub fn value(
     match node {
         view::Node::Const(ty, _) => {
             notes::note(notes, at, 0);
-            Typed::Is(steps::leaf(ty, class::Info::Fixed(f.k), next as u16))
+            Typed::Is(Known::leaf(ty, class::Info::Fixed(f.k), next as u16))
         }
         view::Node::Binop(op) => {
             r = value(cat, starts, view, f, next, down, held, deep, notes);
@@ -132,7 +132,7 @@ pub fn value(
                     match r {
                         Typed::Refused(i, p) => Typed::Refused(i, p),
                         Typed::Is(y) => {
-                            r = steps::with_two(at as u16, op, x, y);
+                            r = x.binop(at as u16, op, y);
                             let w = notes::digits_note(r);
                             notes::note(notes, at, w);
                             r
@@ -146,7 +146,7 @@ pub fn value(
             r = value(cat, starts, view, f, next, down, held, deep, notes);
             match r {
                 Typed::Refused(i, p) => Typed::Refused(i, p),
-                Typed::Is(x) => steps::with_not(at as u16, x),
+                Typed::Is(x) => x.not(at as u16),
             }
         }
         view::Node::If => {
@@ -183,7 +183,7 @@ pub fn value(
                             match r {
                                 Typed::Refused(i, p) => Typed::Refused(i, p),
                                 Typed::Is(z) => {
-                                    r = steps::with_if(at as u16, x, y, z);
+                                    r = x.branch(at as u16, y, z);
                                     let yes = y.ty;
                                     let no = z.ty;
                                     let i = x.next as usize;

@@ -4,6 +4,7 @@ ghost use Rattle.std.specs.Prelude.{◌≡◌};
 ghost use Rattle.cell.specs.Types.{judged_of};
 ghost use Rattle.resolve.specs.Totals.{fold_type, ordered_type, pick_type};
 
+#[tactic(auto, unfolding(crate::specs::Totals::fold_type))]
 pub fn fold_type(f: view::Fold) -> cell::Type
     ensures { result ≡ fold_type f }
 {
@@ -14,23 +15,22 @@ pub fn fold_type(f: view::Fold) -> cell::Type
 }
 
 // A type that has an order: fixed, time or interval.
+#[tactic(auto, unfolding(crate::specs::Totals::ordered_type, cell::specs::Types::judged_of, cell::specs::Types::kind_of))]
 fn ordered_type(t: cell::Type) -> cell::Judged
     ensures { result ≡ judged_of (ordered_type t) }
 {
-    let k = cell::kind_of(t);
-    if (2 <= k) & (k <= 4) {
-        cell::Judged::Is(t)
-    } else {
-        cell::Judged::Broken
+    match t {
+        cell::Type::Fixed(_, _) | cell::Type::Time(_) | cell::Type::Interval(_) => cell::Judged::Is(t),
+        _ => cell::Judged::Broken,
     }
 }
 
+#[tactic(auto, unfolding(crate::specs::Totals::pick_type, cell::specs::Types::judged_of))]
 pub fn pick_type(g: view::Pick, t: cell::Type) -> cell::Judged
     ensures { result ≡ judged_of (pick_type g t) }
 {
     match g {
         view::Pick::Only => cell::Judged::Is(t),
-        view::Pick::Greatest => ordered_type(t),
-        view::Pick::Least => ordered_type(t),
+        view::Pick::Greatest | view::Pick::Least => ordered_type(t),
     }
 }
