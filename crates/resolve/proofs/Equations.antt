@@ -5,6 +5,7 @@ use mathlib.Core.Path.{◌≡◌, refl, ap, ◌∙◌}
 use mathlib.Core.Bool.{Bool, true, false, cond}
 use mathlib.Core.List.{List, ◌∷◌}
 use lib.Dec.{eqb}
+use Rattle.word.specs.Refusal.{Checked, fine, refusal}
 use Rattle.class.specs.declared.Info.{Info}
 use Rattle.class.specs.declared.Info.TheVariants.{Fixed}
 use Rattle.cell.specs.Res.{Res, stuck, done}
@@ -27,24 +28,22 @@ use Rattle.resolve.specs.Resolve.{Out, good, bad, then, col_out, class_out, on_t
 use Rattle.resolve.specs.Typed.{known_of, typed_at, typed_by}
 use Rattle.resolve.specs.Steps.{leaf_k, brought_k, if_k, let_k, ruled_t, bool_t, two_t, not_t, if_t, exists_t, single_t, col_t, class_t}
 use Rattle.resolve.specs.declared.Known.{Known}
-use Rattle.resolve.specs.declared.Typed.{Typed}
-use Rattle.resolve.specs.declared.Typed.TheVariants as typed
 use Rattle.resolve.proofs.Weights.{const_known, col_known, classof_known, local_known, bin_known, neg_known, brought_known, if_known, let_known, exists_known, single_known}
 
 -- the walk's answers in a row: a refusal ends it
-unfoldable pub then_t : Typed → (Known → Typed) → Typed
-then_t (typed.Is x) g = g x
-then_t (typed.Refused number place) g = typed.Refused number place
+unfoldable pub then_t : Checked Known → (Known → Checked Known) → Checked Known
+then_t (fine x) g = g x
+then_t (refusal number place) g = refusal number place
 
 module _ (k : ℕ) (is : List Info) (next : ℕ) where
   -- a child may stand in a scope of its own
-  then_typed : (inner : List Info) (m : ℕ) (o : Out) (f : Expr → Ty → Out) (g : Known → Typed)
+  then_typed : (inner : List Info) (m : ℕ) (o : Out) (f : Expr → Ty → Out) (g : Known → Checked Known)
       → ((x : Expr) (t : Ty) → typed_at k is next (f x t) ≡ g (known_of k inner m x t)) → typed_at k is next (then o f) ≡ then_t (typed_at k inner m o) g
   unfolding then then_t typed_at
   then_typed inner m (good x t) f g h = h x t
   then_typed inner m (bad i p) f g h = refl
 
-  ruled_typed : (at : ℕ) (r : Res Ty) (f : Ty → Out) (g : Ty → Known) → ((t : Ty) → typed_at k is next (f t) ≡ typed.Is (g t)) → typed_at k is next (ruled at r f) ≡ ruled_t at r g
+  ruled_typed : (at : ℕ) (r : Res Ty) (f : Ty → Out) (g : Ty → Known) → ((t : Ty) → typed_at k is next (f t) ≡ fine (g t)) → typed_at k is next (ruled at r f) ≡ ruled_t at r g
   unfolding ruled ruled_t
   ruled_typed at stuck f g h = unfold typed_at in refl
   ruled_typed at (done t) f g h = h t
@@ -53,17 +52,17 @@ module _ (k : ℕ) (is : List Info) (next : ℕ) where
   unfolding need_bool bool_t
   bool_typed at t o = go (eqb (kind_of t) 1)
     where
-      go : (b : Bool) → typed_at k is next (cond b o (bad 9 at)) ≡ cond b (typed_at k is next o) (typed.Refused 9 at)
+      go : (b : Bool) → typed_at k is next (cond b o (bad 9 at)) ≡ cond b (typed_at k is next o) (refusal 9 at)
       go true = refl
       go false = unfold typed_at in refl
 
-  good_typed : (x : Expr) (t : Ty) (h : Known) → known_of k is next x t ≡ h → typed_at k is next (good x t) ≡ typed.Is h
+  good_typed : (x : Expr) (t : Ty) (h : Known) → known_of k is next x t ≡ h → typed_at k is next (good x t) ≡ fine h
   unfolding typed_at
-  good_typed x t h e = ap typed.Is e
+  good_typed x t h e = ap fine e
 
 -- over a catalogue, the open scopes and what is known of their locals; p reads the children of the record at
 module _ (k : ℕ) (cat : List Table) (Γ : List Open) (is : List Info) (p : ℕ → Parsed Exp) (at : ℕ) (P : Parsed Exp) where
-  pub const_step : (t : Ty) (v : Value) → P ≡ ok (ast.Exp.const at t v) (at + 1) → typed_by k cat Γ is P ≡ typed.Is (leaf_k t (Fixed k) (at + 1))
+  pub const_step : (t : Ty) (v : Value) → P ≡ ok (ast.Exp.const at t v) (at + 1) → typed_by k cat Γ is P ≡ fine (leaf_k t (Fixed k) (at + 1))
   unfolding typed_by resolve
   const_step t v e = rw e (good_typed k is (at + 1) _ t _ (const_known k is (at + 1) t v))
 
@@ -124,7 +123,7 @@ module _ (k : ℕ) (cat : List Table) (Γ : List Open) (is : List Info) (p : ℕ
       ∙ ap (if_k w (known_of k is h.mid x s) (brought_k w (known_of k is h.late y t))) (brought_known k is h.end z u w))))))))))
 
   pub let_step : (name : ℕ) → Two p (at + 1) P (ast.Exp.letin at name)
-      → typed_by k cat Γ is P ≡ then_t (typed_by k cat Γ is (p (at + 1))) (λ x. then_t (typed_by k cat (local name x.ty ∷ Γ) (x.info ∷ is) (p x.next)) (λ y. typed.Is (let_k x y)))
+      → typed_by k cat Γ is P ≡ then_t (typed_by k cat Γ is (p (at + 1))) (λ x. then_t (typed_by k cat (local name x.ty ∷ Γ) (x.info ∷ is) (p x.next)) (λ y. fine (let_k x y)))
   unfolding typed_by resolve known_of
   let_step name h =
       rw (h.whole, h.first)
@@ -143,7 +142,7 @@ module _ (k : ℕ) (cat : List Table) (Γ : List Open) (is : List Info) (p : ℕ
         (then_typed k is h.end (Fixed 0 ∷ is) h.end (resolve cat (opened ts ∷ Γ) h.x) _ _ (λ x t.
         bool_typed k is h.end at t _ ∙ ap (bool_t at t) (good_typed k is h.end _ (fold_type f) _ (exists_known k is h.end f ts x t)) ∙ (unfold known_of in refl)))
 
-    pub exists_missing : (f : Fold) (q : ℕ) → One p m P (ast.Exp.exists at f names) → tables_named cat names ≡ missing q → typed_by k cat Γ is P ≡ typed.Refused 6 q
+    pub exists_missing : (f : Fold) (q : ℕ) → One p m P (ast.Exp.exists at f names) → tables_named cat names ≡ missing q → typed_by k cat Γ is P ≡ refusal 6 q
     unfolding typed_by resolve on_tabs typed_at
     exists_missing f q h e = rw (h.whole, e)
 
@@ -157,6 +156,6 @@ module _ (k : ℕ) (cat : List Table) (Γ : List Open) (is : List Info) (p : ℕ
         (then_typed k is h.end (Fixed 0 ∷ is) h.end (resolve cat (opened ts ∷ Γ) h.y) _ _ (λ y t.
         bool_typed k is h.end at s _ ∙ ap (bool_t at s) (ruled_typed k is h.end at (pick_type g t) _ _ (λ u. good_typed k is h.end _ u _ (single_known k is h.mid h.end g ts x y s t u)))))))
 
-    pub single_missing : (g : Pick) (q : ℕ) → Two p m P (ast.Exp.single at g names) → tables_named cat names ≡ missing q → typed_by k cat Γ is P ≡ typed.Refused 6 q
+    pub single_missing : (g : Pick) (q : ℕ) → Two p m P (ast.Exp.single at g names) → tables_named cat names ≡ missing q → typed_by k cat Γ is P ≡ refusal 6 q
     unfolding typed_by resolve on_tabs typed_at
     single_missing g q h e = rw (h.whole, e)

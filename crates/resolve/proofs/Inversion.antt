@@ -7,6 +7,7 @@ use mathlib.Core.List.{List, [], ◌∷◌}
 use native.Mathlib.Omega.{arith}
 use lib.Dec.{eqb, leb}
 use borrow.Author.Tests.{eqb-true}
+use Rattle.word.specs.Refusal.{fine, refusal}
 use Rattle.class.specs.declared.Info.{Info}
 use Rattle.cell.specs.Res.{Res, stuck, done}
 use Rattle.cell.specs.Types.{kind_of, digits_of, binop_type, limb_type}
@@ -27,7 +28,6 @@ use Rattle.resolve.specs.Totals.{fold_type, ordered_type, pick_type}
 use Rattle.resolve.specs.Resolve.{Out, good, bad, then, col_out, class_out, on_tabs, ruled, need_bool, brought, resolve, Outs, goods, bads, also_out, resolve_all, select, refused as denied, with_values, with_test, with_tabs, resolve_view}
 use Rattle.resolve.specs.Typed.{known_of, typed_at, typed_by}
 use Rattle.resolve.specs.declared.Known.{Known}
-use Rattle.resolve.specs.declared.Typed.TheVariants as typed
 
 -- A refusal is not an acceptance.
 pub bad_good : {A : Type 0} {i p : ℕ} {x : Expr} {t : Ty} → bad i p ≡ good x t → A
@@ -400,7 +400,7 @@ view_good cat b s ts e = tabs_view cat b (tables_named cat b.tables) s ts refl e
 
 -- THE WALK'S ANSWER on a value that was read: of an accepted one its type and its class's information, and back again.
 pub typed_good : (k : ℕ) (cat : List Table) (Γ : List Open) (is : List Info) (P : Parsed Exp) (e : Exp) (next : ℕ) (x : Expr) (t : Ty)
-    → P ≡ ok e next → resolve cat Γ e ≡ good x t → typed_by k cat Γ is P ≡ typed.Is (known_of k is next x t)
+    → P ≡ ok e next → resolve cat Γ e ≡ good x t → typed_by k cat Γ is P ≡ fine (known_of k is next x t)
 unfolding typed_by typed_at
 typed_good k cat Γ is P e next x t f g = rw (f, g)
 
@@ -411,22 +411,22 @@ pub record GoodAt (k : ℕ) (cat : List Table) (Γ : List Open) (is : List Info)
   pub known : h ≡ known_of k is next x t
 
 good_at : (k : ℕ) (cat : List Table) (Γ : List Open) (is : List Info) (e : Exp) (next : ℕ) (h : Known) (o : Out)
-    → resolve cat Γ e ≡ o → typed_at k is next o ≡ typed.Is h → GoodAt k cat Γ is e next h
+    → resolve cat Γ e ≡ o → typed_at k is next o ≡ fine h → GoodAt k cat Γ is e next h
 unfolding typed_at
 good_at k cat Γ is e next h (good x t) f g = record { x = x; t = t; resolved = f; known = (cc) }
 good_at k cat Γ is e next h (bad i p) f g = absurd (let z : ◌≡◌ {A = ℕ} 0 1 = cc in omega arith)
 
 pub typed_known : (k : ℕ) (cat : List Table) (Γ : List Open) (is : List Info) (P : Parsed Exp) (e : Exp) (next : ℕ) (h : Known)
-    → P ≡ ok e next → typed_by k cat Γ is P ≡ typed.Is h → GoodAt k cat Γ is e next h
+    → P ≡ ok e next → typed_by k cat Γ is P ≡ fine h → GoodAt k cat Γ is e next h
 unfolding typed_by
 typed_known k cat Γ is P e next h f g = good_at k cat Γ is e next h (resolve cat Γ e) refl (rw f at g)
 
-bad_at : (k : ℕ) (is : List Info) (next i p : ℕ) (o : Out) → typed_at k is next o ≡ typed.Refused i p → o ≡ bad i p
+bad_at : (k : ℕ) (is : List Info) (next i p : ℕ) (o : Out) → typed_at k is next o ≡ refusal i p → o ≡ bad i p
 unfolding typed_at
 bad_at k is next i p (good x t) g = absurd (let z : ◌≡◌ {A = ℕ} 0 1 = cc in omega arith)
 bad_at k is next i p (bad j q) g = let a : j ≡ i = cc in let b : q ≡ p = cc in cc
 
 pub typed_refused : (k : ℕ) (cat : List Table) (Γ : List Open) (is : List Info) (P : Parsed Exp) (e : Exp) (next i p : ℕ)
-    → P ≡ ok e next → typed_by k cat Γ is P ≡ typed.Refused i p → resolve cat Γ e ≡ bad i p
+    → P ≡ ok e next → typed_by k cat Γ is P ≡ refusal i p → resolve cat Γ e ≡ bad i p
 unfolding typed_by
 typed_refused k cat Γ is P e next i p f g = bad_at k is next i p (resolve cat Γ e) (rw f at g)

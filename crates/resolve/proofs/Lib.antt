@@ -6,7 +6,6 @@ pub mod Narrow
 pub mod Weights
 pub mod Leaves
 pub mod Tables
-pub mod Folding
 pub mod Equations
 pub mod Turns
 pub mod Scoped

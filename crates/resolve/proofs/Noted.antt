@@ -8,6 +8,7 @@ use native.Mathlib.Omega.{arith}
 use lib.ListN.{length, set, length-append, length-map}
 use Rattle.word.specs.Buffer.{put}
 use Rattle.word.proofs.Writing.{put_one}
+use Rattle.word.specs.Refusal.{Checked, fine, refusal}
 use Rattle.class.specs.declared.Info.{Info}
 use Rattle.cell.specs.Types.{digits_of, scale_of, same_type}
 use Rattle.cell.specs.declared.Type.{«Type» as Ty}
@@ -30,13 +31,11 @@ use Rattle.scope.proofs.Named.{names_length}
 use Rattle.resolve.specs.Expr.{Expr}
 use Rattle.resolve.specs.Expr as expr
 use Rattle.resolve.specs.Resolve.{Out, good, bad, brought, resolve}
-use Rattle.resolve.specs.Notes.{notes_of, Noted, NotedBy, BodyNoted, marked, found_note, digits_note, marked_at, limbs_noted}
+use Rattle.resolve.specs.Notes.{notes_of, Noted, NotedBy, marked, found_note, marked_at}
 use Rattle.resolve.specs.Typed.{known_of, typed_at, typed_by}
 use Rattle.resolve.specs.Claims.{Narrow, Ready, answer_at}
 use Rattle.resolve.specs.declared.Files.{Files}
 use Rattle.resolve.specs.declared.Known.{Known}
-use Rattle.resolve.specs.declared.Typed.{Typed}
-use Rattle.resolve.specs.declared.Typed.TheVariants as typed
 use Rattle.resolve.proofs.Inversion.{ColGood, of_column, of_local, ClassGood, typed_good, const_good, bin_good, neg_good, if_good, exists_good, single_good, let_good, col_good, classof_good}
 use Rattle.resolve.proofs.Narrow.{narrow_type}
 use Rattle.resolve.proofs.Turns.{after}
@@ -48,15 +47,15 @@ use Rattle.resolve.proofs.Noting.{put_cons, put_last, chain, limb_notes, mark_pu
 module _ (cat : List Table) (Γ : List Open) (P : Parsed Exp) where
   -- where the walk refuses, nothing else is said
   pub noted_refused : (k : ℕ) (is : List Info) (at : ℕ) (o o' : List ℕ) (i p : ℕ)
-      → typed.Refused i p ≡ typed_by k cat Γ is P → (typed.Refused i p ≡ typed_by k cat Γ is P) × NotedBy cat Γ P at o o'
+      → refusal i p ≡ typed_by k cat Γ is P → (refusal i p ≡ typed_by k cat Γ is P) × NotedBy cat Γ P at o o'
   unfolding NotedBy Noted typed_by typed_at
   noted_refused k is at o o' i p e = (e, go P e)
     where
-      by : (next : ℕ) (r : Out) → typed.Refused i p ≡ typed_at k is next r → Noted r at o o'
+      by : (next : ℕ) (r : Out) → refusal i p ≡ typed_at k is next r → Noted r at o o'
       by next (good x t) g = absurd (let z : ◌≡◌ {A = ℕ} 0 1 = cc in omega arith)
       by next (bad j q) g = tt
 
-      go : (Q : Parsed Exp) → typed.Refused i p ≡ typed_by k cat Γ is Q → NotedBy cat Γ Q at o o'
+      go : (Q : Parsed Exp) → refusal i p ≡ typed_by k cat Γ is Q → NotedBy cat Γ Q at o o'
       go (ok e next) g = by next (resolve cat Γ e) g
       go (refused j q) g = tt
 
@@ -80,9 +79,9 @@ module _ (cat : List Table) (Γ : List Open) (P : Parsed Exp) where
         noted_by at o o' (λ x t r. g ∙ sym (put_one o at w) ∙ ap (put o at) (sym (h x t r)))
 
     -- what the walk knows of it
-    pub known_of_lem : (k : ℕ) (is : List Info) (h : Known) (x : Expr) (t : Ty) → resolve cat Γ e ≡ good x t → typed_by k cat Γ is P ≡ typed.Is h → h ≡ known_of k is next x t
+    pub known_of_lem : (k : ℕ) (is : List Info) (h : Known) (x : Expr) (t : Ty) → resolve cat Γ e ≡ good x t → typed_by k cat Γ is P ≡ fine h → h ≡ known_of k is next x t
     known_of_lem k is h x t g b =
-        let z : typed.Is (known_of k is next x t) ≡ typed.Is h = sym (typed_good k cat Γ is P e next x t f g) ∙ b in
+        let z : fine (known_of k is next x t) ≡ fine h = sym (typed_good k cat Γ is P e next x t f g) ∙ b in
         cc
 
 -- ---- how many notes
@@ -199,8 +198,8 @@ module _ (c ss v : List ℕ) (f : Files) (t : List Scope) (deep d at : ℕ) (w :
   abbrev is : List Info
   is = infos_of t deep
 
-  -- LET, from its body on: o₁ are the notes in which its value has been noted
-  module _ (name : ℕ) (g : node_at v at ≡ Let name) (x : Known) (b : answer_at c v f t deep (d - 1) (at + 1) ≡ typed.Is x)
+  -- LET: its note after those of its value
+  module _ (name : ℕ) (g : node_at v at ≡ Let name) (x : Known) (b : answer_at c v f t deep (d - 1) (at + 1) ≡ fine x)
       (s : Scope) (u : List Scope) (p : s ≡ local_scope name x.ty x.info) (q : u ≡ set t deep s) where
     two_let : read.Two (parse_value v f.n (d - 1)) (at + 1) (parse_value v f.n d at) (ast.Exp.letin at name)
     two_let = read.let_read v f.n d at w.is_read refl g
@@ -224,11 +223,9 @@ module _ (c ss v : List ℕ) (f : Files) (t : List Scope) (deep d at : ℕ) (w :
         (e ∙ ap (λ (ws : List ℕ). set ws at 0) i ∙ put_last o at 0 (notes_of l.y)) j (omega arith)
         ∙ ap (put o at) (sym (ap notes_of l.is))
 
-    pub let_noted : (o₁ o₂ o₃ : List ℕ) → o₂ ≡ set o₁ at 0 → NotedAt c v f u (deep + 1) (d - 1) x.next o₂ o₃
-        → BodyNoted (tables_from c f.nc f.nc 0) (scopes_of c f.nc t deep) (parse_value v f.n (d - 1) (at + 1)) (parse_value v f.n d at) at o₁ o₃
-    let_noted o₁ o₂ o₃ e h = record {
-      noted = λ o k. noted_by cat Γ _ (ast.Exp.letin at name two_let.x two_let.y) two_let.end two_let.whole at o o₃ (let_put o o₁ o₂ o₃ e h k);
-    }
+    pub let_noted : (o o₁ o₂ o₃ : List ℕ) → o₂ ≡ set o₁ at 0 → NotedAt c v f u (deep + 1) (d - 1) x.next o₂ o₃ → NotedAt c v f t deep (d - 1) (at + 1) o o₁ → NotedAt c v f t deep d at o o₃
+    let_noted o o₁ o₂ o₃ e h k =
+        noted_by cat Γ _ (ast.Exp.letin at name two_let.x two_let.y) two_let.end two_let.whole at o o₃ (let_put o o₁ o₂ o₃ e h k)
 
   module _ (nd : Node) (e : nd ≡ node_at v at) where
     -- CONSTANTS and names
@@ -261,19 +258,19 @@ module _ (c ss v : List ℕ) (f : Files) (t : List Scope) (deep d at : ℕ) (w :
         ∙ ap (λ (l : List ℕ). put l (at + 1) (notes_of b.y)) h ∙ put_cons o at 0 (notes_of b.y) ∙ ap (put o at) (sym (ap notes_of b.is)))
 
     -- BINOP: its note after those of its operands
-    module _ (op : ℕ) (g : nd ≡ Binop op) (l : Typed) (a : l ≡ answer_at c v f t deep (d - 1) (at + 1)) (x : Known) (b : l ≡ typed.Is x)
-        (s : Typed) (z : s ≡ answer_at c v f t deep d at) (n : ℕ) (i : n ≡ digits_note s) (o o₁ o₂ o₃ : List ℕ)
+    module _ (op : ℕ) (g : nd ≡ Binop op) (l : Checked Known) (a : l ≡ answer_at c v f t deep (d - 1) (at + 1)) (x : Known) (b : l ≡ fine x)
+        (s : Known) (z : fine s ≡ answer_at c v f t deep d at) (n : ℕ) (i : n ≡ digits_of s.ty) (o o₁ o₂ o₃ : List ℕ)
         (h : NotedAt c v f t deep (d - 1) (at + 1) o o₁) (k : NotedAt c v f t deep (d - 1) x.next o₁ o₂) (j : o₃ ≡ set o₂ at n) where
       two_binop : read.Two (parse_value v f.n (d - 1)) (at + 1) (parse_value v f.n d at) (ast.Exp.binop at op)
       two_binop = read.binop_read v f.n d at w.is_read e g
 
       binop_put : (X : Expr) (T : Ty) → resolve cat Γ (ast.Exp.binop at op two_binop.x two_binop.y) ≡ good X T → o₃ ≡ put o at (notes_of X)
-      unfolding notes_of digits_note known_of
+      unfolding notes_of known_of
       binop_put X T r =
           let y = bin_good cat Γ X T at op two_binop.x two_binop.y r in
           let m : two_binop.mid ≡ x.next = after f.k cat Γ is _ two_binop.first (sym a ∙ b) in
           let q : parse_value v f.n (d - 1) x.next ≡ ok two_binop.y two_binop.end = rw m at two_binop.second in
-          let u : n ≡ digits_of T = i ∙ ap digits_note (z ∙ typed_good f.k cat Γ is _ _ two_binop.end X T two_binop.whole r) in
+          let u : n ≡ digits_of T = i ∙ ap (λ (κ : Known). digits_of κ.ty) (known_of_lem cat Γ _ _ two_binop.end two_binop.whole f.k is s X T r (sym z)) in
           let i₁ = noted_is cat Γ _ two_binop.x two_binop.mid two_binop.first (at + 1) o o₁ y.y y.s y.left h in
           let i₂ = noted_is cat Γ _ two_binop.y two_binop.end q x.next o₁ o₂ y.z y.u y.right k in
           let len = notes_length cat v f.n (d - 1) (at + 1) two_binop.x two_binop.mid two_binop.first Γ y.y y.s y.left in
@@ -285,12 +282,12 @@ module _ (c ss v : List ℕ) (f : Files) (t : List Scope) (deep d at : ℕ) (w :
           noted_by cat Γ _ (ast.Exp.binop at op two_binop.x two_binop.y) two_binop.end two_binop.whole at o o₃ binop_put
 
     -- IF: both limbs are marked at the end
-    module _ (g : nd ≡ If) (l : Typed) (a : l ≡ answer_at c v f t deep (d - 1) (at + 1)) (x : Known) (b : l ≡ typed.Is x)
-        (m : Typed) (h : m ≡ answer_at c v f t deep (d - 1) x.next) (y : Known) (i : m ≡ typed.Is y)
-        (n : Typed) (j : n ≡ answer_at c v f t deep (d - 1) y.next) (z : Known) (k : n ≡ typed.Is z)
-        (s : Typed) (q : s ≡ answer_at c v f t deep d at) (o o₀ o₁ o₂ o₃ o₄ : List ℕ) (p₀ : o₀ ≡ set o at 0)
+    module _ (g : nd ≡ If) (l : Checked Known) (a : l ≡ answer_at c v f t deep (d - 1) (at + 1)) (x : Known) (b : l ≡ fine x)
+        (m : Checked Known) (h : m ≡ answer_at c v f t deep (d - 1) x.next) (y : Known) (i : m ≡ fine y)
+        (n : Checked Known) (j : n ≡ answer_at c v f t deep (d - 1) y.next) (z : Known) (k : n ≡ fine z)
+        (s : Known) (q : fine s ≡ answer_at c v f t deep d at) (o o₀ o₁ o₂ o₃ o₄ : List ℕ) (p₀ : o₀ ≡ set o at 0)
         (p₁ : NotedAt c v f t deep (d - 1) (at + 1) o₀ o₁) (p₂ : NotedAt c v f t deep (d - 1) x.next o₁ o₂) (p₃ : NotedAt c v f t deep (d - 1) y.next o₂ o₃)
-        (p₄ : o₄ ≡ limbs_noted o₃ x.next y.ty y.next z.ty s) where
+        (p₄ : o₄ ≡ marked_at (marked_at o₃ x.next y.ty s.ty) y.next z.ty s.ty) where
       three_if : read.Three (parse_value v f.n (d - 1)) (at + 1) (parse_value v f.n d at) (ast.Exp.if at)
       three_if = read.if_read v f.n d at w.is_read e g
 
@@ -304,7 +301,7 @@ module _ (c ss v : List ℕ) (f : Files) (t : List Scope) (deep d at : ℕ) (w :
           ∙ chain A x.next (limb_notes r T ys) _ y.next (limb_notes u T zs) _ refl refl (let h = length_limb r T ys in omega arith)
 
       if_put : (X : Expr) (T : Ty) → resolve cat Γ (ast.Exp.if at three_if.x three_if.y three_if.z) ≡ good X T → o₄ ≡ put o at (notes_of X)
-      unfolding notes_of limbs_noted known_of
+      unfolding notes_of known_of
       if_put X T r =
           let v₀ = if_good cat Γ X T at three_if.x three_if.y three_if.z r in
           let m₁ : three_if.mid ≡ x.next = after f.k cat Γ is _ three_if.first (sym a ∙ b) in
@@ -325,7 +322,7 @@ module _ (c ss v : List ℕ) (f : Files) (t : List Scope) (deep d at : ℕ) (w :
           let ended = limbs_put o₁ (notes_of v₀.y) (notes_of v₀.z) v₀.s v₀.u T i₂ i₃ (omega arith) (omega arith) (omega arith) in
           let first : o₁ ≡ put o at (0 ∷ notes_of v₀.w) = i₁ ∙ ap (λ (ws : List ℕ). put ws (at + 1) (notes_of v₀.w)) p₀ ∙ put_cons o at 0 (notes_of v₀.w) in
           let whole : o₄ ≡ marked_at (marked_at o₃ x.next v₀.s T) y.next v₀.u T =
-          p₄ ∙ ap (limbs_noted o₃ x.next y.ty y.next z.ty) (q ∙ typed_good f.k cat Γ is _ _ three_if.end X T three_if.whole r)
+          p₄ ∙ ap (λ (κ : Known). marked_at (marked_at o₃ x.next y.ty κ.ty) y.next z.ty κ.ty) (known_of_lem cat Γ _ _ three_if.end three_if.whole f.k is s X T r (sym q))
           ∙ ap₂ (λ (τ υ : Ty). marked_at (marked_at o₃ x.next τ T) y.next υ T) t₂ t₃ in
           chain o at (0 ∷ notes_of v₀.w) o₁ x.next (limb_notes v₀.s T (notes_of v₀.y) ++ limb_notes v₀.u T (notes_of v₀.z)) o₄ first (whole ∙ ended) (omega arith)
           ∙ ap (put o at) (sym (ap notes_of v₀.is ∙ ap₂ (λ (ys zs : List ℕ). 0 ∷ (notes_of v₀.w ++ (ys ++ zs))) (brought_notes v₀.s T v₀.y narrow) (brought_notes v₀.u T v₀.z narrow)))

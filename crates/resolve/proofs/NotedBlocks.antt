@@ -7,6 +7,7 @@ use mathlib.Core.List.{List, ◌∷◌, ◌++◌, map}
 use native.Mathlib.Omega.{arith}
 use lib.ListN.{set}
 use Rattle.word.specs.Buffer.{put}
+use Rattle.word.specs.Refusal.{Checked, fine}
 use Rattle.catalogue.specs.Tables.{Table, TabRef, tables_from}
 use Rattle.view.specs.Ast.{ok}
 use Rattle.view.specs.Ast as ast
@@ -27,8 +28,6 @@ use Rattle.resolve.specs.declared.Asked.{Asked}
 use Rattle.resolve.specs.declared.Asked.TheVariants as ask
 use Rattle.resolve.specs.declared.Files.{Files}
 use Rattle.resolve.specs.declared.Known.{Known}
-use Rattle.resolve.specs.declared.Typed.{Typed}
-use Rattle.resolve.specs.declared.Typed.TheVariants as typed
 use Rattle.resolve.proofs.Inversion.{exists_good, single_good}
 use Rattle.resolve.proofs.Turns.{after}
 use Rattle.resolve.proofs.Scoped.{block_scopes, exists_one, single_two}
@@ -80,7 +79,7 @@ module _ (c ss v : List ℕ) (f : Files) (t : List Scope) (deep d at : ℕ) (w :
       ∙ ap (λ (ws : List ℕ). put o at (0 ∷ (ws ++ notes_of y.y))) (numbers_are c f.nc v (at + 1) count y.tabs y.there)
       ∙ ap (put o at) (sym (ap notes_of y.is)))
 
-  module _ (l : Typed) (a : l ≡ answer_at c v f u (deep + 1) (d - 1) (at + 1 + count)) (x : Known) (e : l ≡ typed.Is x) (o₄ : List ℕ) (h₄ : NotedAt c v f u (deep + 1) (d - 1) x.next o₃ o₄) where
+  module _ (l : Checked Known) (a : l ≡ answer_at c v f u (deep + 1) (d - 1) (at + 1 + count)) (x : Known) (e : l ≡ fine x) (o₄ : List ℕ) (h₄ : NotedAt c v f u (deep + 1) (d - 1) x.next o₃ o₄) where
     pub single_noted : (k : Pick) → asked ≡ ask.Values k → NotedAt c v f t deep d at o o₄
     unfolding notes_of
     single_noted k j =

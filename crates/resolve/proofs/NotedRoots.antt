@@ -9,6 +9,7 @@ use lib.Dec.{eqb}
 use lib.ListN.{length, set, length-set, replicate}
 use Rattle.word.specs.Buffer.{put}
 use Rattle.word.proofs.Writing.{put_nil, length_put}
+use Rattle.word.specs.Refusal.{Checked, fine, refusal}
 use Rattle.class.specs.declared.Info.{Info}
 use Rattle.class.specs.declared.Info.TheVariants.{Fixed}
 use Rattle.cell.specs.Types.{kind_of}
@@ -30,14 +31,9 @@ use Rattle.resolve.specs.Notes.{notes_of, Noted, NotedBy, notes_all, NotedAll, N
 use Rattle.resolve.specs.Infos.{class_info}
 use Rattle.resolve.specs.Typed.{known_of, typed_by}
 use Rattle.resolve.specs.Claims.{answer_at, Rooted, resolved_by, resolved_all, verdict_of, verdict_all}
-use Rattle.resolve.specs.declared.Counted.TheVariants as counted
 use Rattle.resolve.specs.declared.Files.{Files}
 use Rattle.resolve.specs.declared.Known.{Known}
-use Rattle.resolve.specs.declared.Typed.{Typed}
-use Rattle.resolve.specs.declared.Typed.TheVariants as typed
 use Rattle.resolve.specs.declared.Sums.{Sums}
-use Rattle.resolve.specs.declared.Verdict.{Verdict}
-use Rattle.resolve.specs.declared.Verdict.TheVariants as verdict
 use Rattle.resolve.proofs.Turns.{after}
 use Rattle.resolve.proofs.Roots.{Left, parts, there, root_infos, out_parts, values_at}
 use Rattle.resolve.proofs.Noting.{put_cons, chain}
@@ -49,8 +45,8 @@ unfolding EndedAll
 all_ends k is (goods xs ts) at i o o' h = ap length h ∙ length_put o i (ends_of k is at xs)
 all_ends k is (bads j p) at i o o' h = h
 
-pub all_refused : (k : ℕ) (is : List Info) (vs : Outs) (at n : ℕ) (o o' s s' : List ℕ) (i p : ℕ) → counted.Refused i p ≡ verdict_all k is vs → length s' ≡ length s
-    → (counted.Refused i p ≡ verdict_all k is vs) × (NotedAll vs at o o' × EndedAll k is vs at n s s')
+pub all_refused : (k : ℕ) (is : List Info) (vs : Outs) (at n : ℕ) (o o' s s' : List ℕ) (i p : ℕ) → refusal i p ≡ verdict_all k is vs → length s' ≡ length s
+    → (refusal i p ≡ verdict_all k is vs) × (NotedAll vs at o o' × EndedAll k is vs at n s s')
 unfolding NotedAll EndedAll verdict_all
 all_refused k is (goods xs ts) at n o o' s s' i p e m = absurd (let z : ◌≡◌ {A = ℕ} 0 1 = cc in omega arith)
 all_refused k is (bads j q) at n o o' s s' i p e m = (e, (tt, m))
@@ -74,7 +70,7 @@ also_ended k is (bad j p) vs at next i n o o₁ o₂ h g l = all_ends k is vs ne
 
 -- what the walk knows of a value, as its end says it
 end_known : (k : ℕ) (cat : List Table) (Γ : List Open) (is : List Info) (P : Parsed Exp) (e : Exp) (next : ℕ) (h : Known) (x : Expr) (t : Ty) (n : ℕ)
-    → P ≡ ok e next → resolve cat Γ e ≡ good x t → typed_by k cat Γ is P ≡ typed.Is h → n ≡ end_note h.next h.info → n ≡ end_note h.next (class_info k is x)
+    → P ≡ ok e next → resolve cat Γ e ≡ good x t → typed_by k cat Γ is P ≡ fine h → n ≡ end_note h.next h.info → n ≡ end_note h.next (class_info k is x)
 unfolding known_of
 end_known k cat Γ is P e next h x t n f g b d = d ∙ ap (end_note h.next) (ap (λ (y : Known). y.info) (known_of_lem cat Γ P e next f k is h x t g b))
 
@@ -100,7 +96,7 @@ module _ (c v : List ℕ) (f : Files) (t : List Scope) where
     unfolding resolved_all resolve_all NotedAll notes_all
     onward_done l = let z : count - j ≡ 0 = omega arith in w.onward o (rw (z, none_ok (parse_value v f.n 15) m) (sym (put_nil o m)))
 
-    module _ (ss : List ℕ) (n : ℕ) (p : Left c ss v f t count at j m n) (l : j < count) (r : Typed) (e : r ≡ answer_at c v f t 1 15 m) (x : Known) (g : r ≡ typed.Is x) (o₁ : List ℕ)
+    module _ (ss : List ℕ) (n : ℕ) (p : Left c ss v f t count at j m n) (l : j < count) (r : Checked Known) (e : r ≡ answer_at c v f t 1 15 m) (x : Known) (g : r ≡ fine x) (o₁ : List ℕ)
         (h : NotedBy (tables_from c f.nc f.nc 0) (scopes_of c f.nc t 1) (parse_value v f.n 15 m) m o o₁) where
       step : (o' : List ℕ) → NotedAll (values_out (count - (j + 1)) x.next) x.next o₁ o' → NotedAll (values_out (count - j) m) m o o'
       unfolding resolved_all resolve_all
@@ -133,7 +129,7 @@ module _ (c v : List ℕ) (f : Files) (t : List Scope) where
     unfolding resolved_all resolve_all EndedAll ends_of
     ending_done l = let z : count - j ≡ 0 = omega arith in w.onward s (rw (z, none_ok (parse_value v f.n 15) m) (sym (put_nil s (j + 1))))
 
-    module _ (ss : List ℕ) (n : ℕ) (p : Left c ss v f t count at j m n) (l : j < count) (r : Typed) (e : r ≡ answer_at c v f t 1 15 m) (x : Known) (g : r ≡ typed.Is x)
+    module _ (ss : List ℕ) (n : ℕ) (p : Left c ss v f t count at j m n) (l : j < count) (r : Checked Known) (e : r ≡ answer_at c v f t 1 15 m) (x : Known) (g : r ≡ fine x)
         (a : ℕ) (d : a ≡ end_note x.next x.info) (s₁ : List ℕ) (h : s₁ ≡ set s (j + 1) a) where
       end_step : (s' : List ℕ) → EndedAll f.k (infos_of t 1) (values_out (count - (j + 1)) x.next) x.next (j + 1 + 1) s₁ s'
           → EndedAll f.k (infos_of t 1) (values_out (count - j) m) m (j + 1) s s'
@@ -152,14 +148,14 @@ module _ (c v : List ℕ) (f : Files) (t : List Scope) where
       ending_again = record { long = ap length h ∙ length-set s (j + 1) a ∙ w.long; onward = λ s' k. w.onward s' (end_step s' k) }
 
 -- THE WHOLE VIEW
-pub view_refused : (k : ℕ) (R : Resolved) (o o' s s' : List ℕ) (i p : ℕ) → verdict.Refused i p ≡ verdict_of k R → length s' ≡ length s
-    → (verdict.Refused i p ≡ verdict_of k R) × (NotedView R o o' × EndedView k R s s')
+pub view_refused : (k : ℕ) (R : Resolved) (o o' s s' : List ℕ) (i p : ℕ) → refusal i p ≡ verdict_of k R → length s' ≡ length s
+    → (refusal i p ≡ verdict_of k R) × (NotedView R o o' × EndedView k R s s')
 unfolding NotedView EndedView verdict_of
 view_refused k (select q ts) o o' s s' i p e m = absurd (let z : ◌≡◌ {A = ℕ} 0 1 = cc in omega arith)
 view_refused k (denied j q) o o' s s' i p e m = (e, (tt, m))
 
 -- the notes of a view that is taken are as many as before
-pub taken_long : (k : ℕ) (R : Resolved) (o o' : List ℕ) (r : Verdict) (s : Sums) → r ≡ verdict_of k R → r ≡ verdict.Fine s → NotedView R o o' → length o' ≡ length o
+pub taken_long : (k : ℕ) (R : Resolved) (o o' : List ℕ) (r : Checked Sums) (s : Sums) → r ≡ verdict_of k R → r ≡ fine s → NotedView R o o' → length o' ≡ length o
 unfolding NotedView verdict_of
 taken_long k (select q ts) o o' r s e f h = ap length h ∙ length_put o (1 + length q.from) (notes_of q.test ++ notes_all q.values)
 taken_long k (denied i p) o o' r s e f h = absurd (let z : ◌≡◌ {A = ℕ} 0 1 = cc in omega arith)
@@ -198,7 +194,7 @@ test_ended k is ts (bad i p) vs at next n o o₁ o₂ m h g a l = all_ends k is 
 
 module _ (c ss v : List ℕ) (f : Files) (tables count : ℕ) (w : Rooted c ss v f tables count) (b : Opened)
     (q : b ≡ opened_by ss (tables_named (tables_from c f.nc f.nc 0) (names_at v 1 tables))) (z : not b.fine ≡ false)
-    (l : Typed) (a : l ≡ answer_at c v f (replicate 16 b.scope) 1 15 (1 + tables)) (x : Known) (g : l ≡ typed.Is x) where
+    (l : Checked Known) (a : l ≡ answer_at c v f (replicate 16 b.scope) 1 15 (1 + tables)) (x : Known) (g : l ≡ fine x) where
   module _ (o o₁ o₂ : List ℕ)
       (h : NotedBy (tables_from c f.nc f.nc 0) (scopes_of c f.nc (replicate 16 b.scope) 1) (parse_value v f.n 15 (1 + tables)) (1 + tables) o o₁)
       (k : NotedAll (resolved_all (tables_from c f.nc f.nc 0) (scopes_of c f.nc (replicate 16 b.scope) 1) (many (parse_value v f.n 15) count x.next)) x.next o₁ o₂) where

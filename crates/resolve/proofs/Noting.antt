@@ -12,6 +12,7 @@ use lib.ListN.{length, get_or, set, drop, length-map, drop_of_length-le}
 use lib.Seq.{drop-cons, set_out, set-set, set_comm, get_or-set_same}
 use Rattle.word.specs.Buffer.{put}
 use Rattle.word.proofs.Writing.{put_append, put_nil, length_put, put_before}
+use Rattle.word.specs.Refusal.{Checked, fine, refusal}
 use Rattle.class.specs.declared.Info.{Info}
 use Rattle.class.specs.declared.Info.TheVariants.{Fixed, Bound}
 use Rattle.cell.specs.Res.{done, nth}
@@ -25,11 +26,9 @@ use Rattle.scope.specs.Blocks.{all, refs_of, tables_named}
 use Rattle.scope.specs.declared.Found.{Found}
 use Rattle.scope.specs.declared.Found.TheVariants as F
 use Rattle.scope.proofs.Named.{names_length, number_again}
-use Rattle.resolve.specs.Notes.{column_note, local_note, marked, found_note, digits_note, end_note, numbers_at, marked_at, limbs_noted}
+use Rattle.resolve.specs.Notes.{marked, numbers_at, marked_at}
 use Rattle.resolve.specs.Claims.{Tabled}
 use Rattle.resolve.specs.declared.Known.{Known}
-use Rattle.resolve.specs.declared.Typed.{Typed}
-use Rattle.resolve.specs.declared.Typed.TheVariants as typed
 use Rattle.resolve.proofs.Scoped.{not_true, not_false}
 
 -- ---- stores
@@ -57,78 +56,6 @@ put_last o at w ws = set_put o at (at + 1) w ws (omega arith) ∙ put_cons o at 
 pub chain : (o : List ℕ) (at : ℕ) (ws : List ℕ) (o₁ : List ℕ) (m : ℕ) (vs o₂ : List ℕ) → o₁ ≡ put o at ws → o₂ ≡ put o₁ m vs → m ≡ at + length ws → o₂ ≡ put o at (ws ++ vs)
 chain o at ws o₁ m vs o₂ a b e =
     b ∙ ap (λ (l : List ℕ). put l m vs) a ∙ ap (λ (j : ℕ). put (put o at ws) j vs) e ∙ put_append o at ws vs
-
--- ---- one note
-
-pub ruleset notings = (dropped, rules)
-
--- ---- the note of a name, and of BINOP
-
-module _ (h : Found) where
-  pub note_column : (a b c : ℕ) (t : Ty) (i j : Info) → h ≡ F.Column a b c t i j → a + 65536 * b + 4294967296 * c ≡ found_note h
-  unfolding found_note column_note
-  note_column a b c t i j e = rw e
-
-  pub note_local : (a : ℕ) (t : Ty) (i : Info) → h ≡ F.Local a t i → 281474976710656 + a ≡ found_note h
-  unfolding found_note local_note
-  note_local a t i e = rw e
-
-  pub note_none : h ≡ F.None → 0 ≡ found_note h
-  unfolding found_note
-  note_none e = rw e
-
-  pub note_more : h ≡ F.Ambiguous → 0 ≡ found_note h
-  unfolding found_note
-  note_more e = rw e
-
-module _ (r : Typed) where
-  pub digits_is : (x : Known) (p : ℕ) → r ≡ typed.Is x → p ≡ digits_of x.ty → p ≡ digits_note r
-  unfolding digits_note
-  digits_is x p e f = rw e f
-
-  pub digits_bad : (i q : ℕ) → r ≡ typed.Refused i q → 0 ≡ digits_note r
-  unfolding digits_note
-  digits_bad i q e = rw e
-
-module _ (n : ℕ) (i : Info) where
-  pub end_fixed : (k : ℕ) → i ≡ Fixed k → n + 65536 * k ≡ end_note n i
-  unfolding end_note
-  end_fixed k e = rw e
-
-  pub end_bound : (b : ℕ) → i ≡ Bound b → n + 65536 * b + 4294967296 ≡ end_note n i
-  unfolding end_note
-  end_bound b e = rw e
-
-pub ruleset found_notes = (note_column, note_local, note_none, note_more, digits_is, digits_bad, end_fixed, end_bound, rules)
-
--- ---- marks
-
-module _ (o : List ℕ) (at : ℕ) (s t : Ty) (b : Bool) (e : b ≡ same_type s t) where
-  pub mark_same : not b ≡ false → o ≡ marked_at o at s t
-  unfolding marked_at
-  mark_same f = let g : same_type s t ≡ true = sym e ∙ not_false b f in rw g
-
-  pub mark_out : not b ≡ true → length o ≤ at → o ≡ marked_at o at s t
-  unfolding marked_at
-  mark_out f h = let g : same_type s t ≡ false = sym e ∙ not_true b f in rw g (dropped o at _ h)
-
-  pub mark_set : (p q : ℕ) → not b ≡ true → p ≡ digits_of t → q ≡ scale_of t
-      → set o at (get_or o at 0 % 72057594037927936 + 72057594037927936 * ((16 * p + q) % 256)) ≡ marked_at o at s t
-  unfolding marked_at
-  mark_set p q f i j = let g : same_type s t ≡ false = sym e ∙ not_true b f in rw (g, i, j)
-
-pub ruleset marks = (mark_same, mark_out, mark_set, rules)
-
-module _ (o : List ℕ) (i : ℕ) (s : Ty) (j : ℕ) (t : Ty) (r : Typed) where
-  pub limbs_are : (x : Known) (o₁ o₂ : List ℕ) → r ≡ typed.Is x → o₁ ≡ marked_at o i s x.ty → o₂ ≡ marked_at o₁ j t x.ty → o₂ ≡ limbs_noted o i s j t r
-  unfolding limbs_noted
-  limbs_are x o₁ o₂ e f g = rw e (g ∙ ap (λ (l : List ℕ). marked_at l j t x.ty) f)
-
-  pub limbs_bad : (k q : ℕ) → r ≡ typed.Refused k q → o ≡ limbs_noted o i s j t r
-  unfolding limbs_noted
-  limbs_bad k q e = rw e
-
-pub ruleset limbed = (limbs_are, limbs_bad, rules)
 
 -- a mark on a run's first note; a mark before a run
 marked_put : (o : List ℕ) (at m : ℕ) (ws : List ℕ) → 0 < length ws

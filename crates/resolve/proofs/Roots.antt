@@ -11,6 +11,7 @@ use types.Run.{OneOf, miss}
 use lib.Dec.{eqb}
 use lib.ListN.{length, get_or, replicate}
 use Rattle.word.specs.Header.{count_at}
+use Rattle.word.specs.Refusal.{Checked, fine, refusal}
 use Rattle.class.specs.declared.Info.{Info}
 use Rattle.class.specs.declared.Info.TheVariants.{Fixed}
 use Rattle.cell.specs.Types.{kind_of}
@@ -39,36 +40,31 @@ use Rattle.resolve.specs.Infos.{class_info}
 use Rattle.resolve.specs.Sizes.{size_d, weigh, capped, pairs_size, sums_of}
 use Rattle.resolve.specs.Typed.{known_of}
 use Rattle.resolve.specs.Claims.{Narrow, Ready, answer_at, Accepted, Rooted, Several, resolved_by, resolved_all, verdict_of, verdict_all}
-use Rattle.resolve.specs.declared.Counted.{Counted}
-use Rattle.resolve.specs.declared.Counted.TheVariants as counted
 use Rattle.resolve.specs.declared.Files.{Files}
 use Rattle.resolve.specs.declared.Known.{Known}
-use Rattle.resolve.specs.declared.Typed.{Typed}
-use Rattle.resolve.specs.declared.Typed.TheVariants as typed
-use Rattle.resolve.specs.declared.Verdict.{Verdict}
-use Rattle.resolve.specs.declared.Verdict.TheVariants as verdict
+use Rattle.resolve.specs.declared.Sums.{Sums}
 use Rattle.resolve.proofs.Inversion.{GoodAt, typed_known, typed_refused}
 use Rattle.resolve.proofs.Narrow.{narrow_entry}
 use Rattle.resolve.proofs.Turns.{after}
 use Rattle.resolve.proofs.Weights.{plus_capped}
-use Rattle.resolve.proofs.Scoped.{not_true, not_false}
+use Rattle.resolve.proofs.Scoped.{not_true, not_false, missing_first}
 
 -- SEVERAL VALUES
 -- n records were counted before the rest
-pub besides : ℕ → Counted → Counted
-besides n (counted.Records m) = counted.Records (capped (n + m))
-besides n (counted.Refused i p) = counted.Refused i p
+pub besides : ℕ → Checked ℕ → Checked ℕ
+besides n (fine m) = fine (capped (n + m))
+besides n (refusal i p) = refusal i p
 
-none_besides : (r : Counted) (k : ℕ) (is : List Info) (o : Outs) → r ≡ verdict_all k is o → r ≡ besides 0 (verdict_all k is o)
+none_besides : (r : Checked ℕ) (k : ℕ) (is : List Info) (o : Outs) → r ≡ verdict_all k is o → r ≡ besides 0 (verdict_all k is o)
 unfolding verdict_all besides
-none_besides r k is (goods xs ts) e = let z : capped (pairs_size k is xs) ≡ capped (0 + capped (pairs_size k is xs)) = omega arith in e ∙ ap counted.Records z
+none_besides r k is (goods xs ts) e = let z : capped (pairs_size k is xs) ≡ capped (0 + capped (pairs_size k is xs)) = omega arith in e ∙ ap fine z
 none_besides r k is (bads i p) e = e
 
-all_besides : (n : ℕ) (k : ℕ) (is : List Info) (ts : List Ty) → n ≤ 8191 → besides n (verdict_all k is (goods [] ts)) ≡ counted.Records n
+all_besides : (n : ℕ) (k : ℕ) (is : List Info) (ts : List Ty) → n ≤ 8191 → besides n (verdict_all k is (goods [] ts)) ≡ fine n
 unfolding verdict_all besides pairs_size
-all_besides n k is ts l = let z : capped (n + capped 0) ≡ n = omega arith in ap counted.Records z
+all_besides n k is ts l = let z : capped (n + capped 0) ≡ n = omega arith in ap fine z
 
-also_bad : (n k : ℕ) (is : List Info) (o : Out) (rest : Outs) (i p : ℕ) → o ≡ bad i p → besides n (verdict_all k is (also_out o rest)) ≡ counted.Refused i p
+also_bad : (n k : ℕ) (is : List Info) (o : Out) (rest : Outs) (i p : ℕ) → o ≡ bad i p → besides n (verdict_all k is (also_out o rest)) ≡ refusal i p
 unfolding also_out verdict_all besides
 also_bad n k is o rest i p e = rw e
 
@@ -89,7 +85,7 @@ also_good : (n k : ℕ) (is : List Info) (o : Out) (rest : Outs) (x : Expr) (t :
     → besides n (verdict_all k is (also_out o rest)) ≡ besides r (verdict_all k is rest)
 also_good n k is o (goods xs ts) x t p r e g h =
     unfold also_out verdict_all besides pairs_size in
-    rw e (ap counted.Records (counted_more n (size_d x) (weigh k is x).size (pairs_size k is xs) p r g h))
+    rw e (ap fine (counted_more n (size_d x) (weigh k is x).size (pairs_size k is xs) p r g h))
 also_good n k is o (bads i q) x t p r e g h = unfold also_out verdict_all besides in rw e
 
 module _ (c ss v : List ℕ) (f : Files) (t : List Scope) where
@@ -97,7 +93,7 @@ module _ (c ss v : List ℕ) (f : Files) (t : List Scope) where
   p = parse_value v f.n 15
 
   -- what the values from record `at` on come to
-  abbrev pub values_from : ℕ → ℕ → Counted
+  abbrev pub values_from : ℕ → ℕ → Checked ℕ
   values_from count at = verdict_all f.k (infos_of t 1) (resolved_all (tables_from c f.nc f.nc 0) (scopes_of c f.nc t 1) (many (parse_value v f.n 15) count at))
 
   -- j of them are walked and take n records, the next stands at m
@@ -112,7 +108,7 @@ module _ (c ss v : List ℕ) (f : Files) (t : List Scope) where
       record { several = rw h w; small = omega arith; same = rw h (none_besides _ f.k (infos_of t 1) _ refl) }
 
   module _ (count at j m n : ℕ) (w : Left count at j m n) where
-    pub left_done : count ≤ j → counted.Records n ≡ values_from count at
+    pub left_done : count ≤ j → fine n ≡ values_from count at
     unfolding resolved_all resolve_all
     left_done l = let h : count - j ≡ 0 = omega arith in sym (w.same ∙ rw (h, none_ok p m) (all_besides n f.k (infos_of t 1) [] w.small))
 
@@ -124,14 +120,14 @@ module _ (c ss v : List ℕ) (f : Files) (t : List Scope) where
           let g = here_ok v f.n 15 m r in
           record { lent = w.several.lent; sized = w.several.sized; not_many = omega arith; is_read = r; here = g.here; left = omega arith; narrow = w.several.narrow }
 
-      module _ (r : Typed) (e : r ≡ answer_at c v f t 1 15 m) where
-        pub left_refused : (i q : ℕ) → r ≡ typed.Refused i q → counted.Refused i q ≡ values_from count at
+      module _ (r : Checked Known) (e : r ≡ answer_at c v f t 1 15 m) where
+        pub left_refused : (i q : ℕ) → r ≡ refusal i q → refusal i q ≡ values_from count at
         unfolding resolved_all resolve_all
         left_refused i q g =
             let h = more_ok p (count - j) m (omega arith) w.several.is_read in
             sym (w.same ∙ rw h.whole (also_bad n f.k (infos_of t 1) _ _ i q (typed_refused f.k _ _ (infos_of t 1) _ h.head h.mid i q h.first (sym e ∙ g))))
 
-        pub left_again : (x : Known) (a b : ℕ) → r ≡ typed.Is x → a ≡ capped (x.values + x.classes) → b ≡ capped (n + a) → Left count at (j + 1) x.next b
+        pub left_again : (x : Known) (a b : ℕ) → r ≡ fine x → a ≡ capped (x.values + x.classes) → b ≡ capped (n + a) → Left count at (j + 1) x.next b
         unfolding resolved_all resolve_all known_of
         left_again x a b g ea eb =
             let h = more_ok p (count - j) m (omega arith) w.several.is_read in
@@ -151,33 +147,33 @@ unfolding resolved_by resolve_view
 read_view cat P b end e = rw e
 
 -- THE ROOT, by its tables, its where and its values
-test_bad : (k : ℕ) (ts : List TabRef) (o : Out) (vs : Outs) (i q : ℕ) → o ≡ bad i q → verdict_of k (with_test ts o vs) ≡ verdict.Refused i q
+test_bad : (k : ℕ) (ts : List TabRef) (o : Out) (vs : Outs) (i q : ℕ) → o ≡ bad i q → verdict_of k (with_test ts o vs) ≡ refusal i q
 unfolding with_test verdict_of
 test_bad k ts o vs i q e = rw e
 
-values_bad : (k : ℕ) (is : List Info) (ts : List TabRef) (o : Out) (vs : Outs) (x : Expr) (s : Ty) (i q : ℕ) → o ≡ good x s → verdict_all k is vs ≡ counted.Refused i q
-    → verdict_of k (with_test ts o vs) ≡ verdict.Refused i q
+values_bad : (k : ℕ) (is : List Info) (ts : List TabRef) (o : Out) (vs : Outs) (x : Expr) (s : Ty) (i q : ℕ) → o ≡ good x s → verdict_all k is vs ≡ refusal i q
+    → verdict_of k (with_test ts o vs) ≡ refusal i q
 values_bad k is ts o (goods xs us) x s i q e g = absurd (unfold verdict_all in let z : ◌≡◌ {A = ℕ} 0 1 = cc in omega arith)
 values_bad k is ts o (bads j r) x s i q e g = unfold with_test with_values verdict_of verdict_all in let a : j ≡ i = cc in let b : r ≡ q = cc in rw (e, a, b)
 
 -- what the walk knows of the where, and the count of the values' records
-abbrev pub fine_by : Known → ℕ → Verdict
-fine_by x n = verdict.Fine (record { info = x.info; values = x.values; classes = x.classes; pairs = n })
+abbrev pub fine_by : Known → ℕ → Checked Sums
+fine_by x n = fine (record { info = x.info; values = x.values; classes = x.classes; pairs = n })
 
-where_judged : (k next : ℕ) (is : List Info) (ts : List TabRef) (o : Out) (vs : Outs) (x : Expr) (s : Ty) (n : ℕ) → is ≡ Fixed 0 ∷ [] → o ≡ good x s → verdict_all k is vs ≡ counted.Records n
-    → verdict_of k (with_test ts o vs) ≡ cond (eqb (kind_of s) 1) (fine_by (known_of k is next x s) n) (verdict.Refused 9 0)
+where_judged : (k next : ℕ) (is : List Info) (ts : List TabRef) (o : Out) (vs : Outs) (x : Expr) (s : Ty) (n : ℕ) → is ≡ Fixed 0 ∷ [] → o ≡ good x s → verdict_all k is vs ≡ fine n
+    → verdict_of k (with_test ts o vs) ≡ cond (eqb (kind_of s) 1) (fine_by (known_of k is next x s) n) (refusal 9 0)
 where_judged k next is ts o (bads j r) x s n m e g = absurd (unfold verdict_all in let z : ◌≡◌ {A = ℕ} 0 1 = cc in omega arith)
 where_judged k next is ts o (goods xs us) x s n m e g = unfold with_test with_values in rw e (go (eqb (kind_of s) 1))
   where
     sum : capped (pairs_size k (Fixed 0 ∷ []) xs) ≡ n
     sum = unfold verdict_all in ap (λ (l : List Info). capped (pairs_size k l xs)) (sym m) ∙ (let h : capped (pairs_size k is xs) ≡ n = cc in h)
 
-    sums : verdict.Fine (sums_of k (record { from = ts; test = x; values = xs })) ≡ fine_by (known_of k is next x s) n
+    sums : fine (sums_of k (record { from = ts; test = x; values = xs })) ≡ fine_by (known_of k is next x s) n
     sums = unfold sums_of known_of in
-        ap (λ (p : ℕ). verdict.Fine (record { info = class_info k (Fixed 0 ∷ []) x; values = capped (size_d x); classes = capped (weigh k (Fixed 0 ∷ []) x).size; pairs = p })) sum
-        ∙ ap (λ (l : List Info). verdict.Fine (record { info = class_info k l x; values = capped (size_d x); classes = capped (weigh k l x).size; pairs = n })) (sym m)
+        ap (λ (p : ℕ). fine (record { info = class_info k (Fixed 0 ∷ []) x; values = capped (size_d x); classes = capped (weigh k (Fixed 0 ∷ []) x).size; pairs = p })) sum
+        ∙ ap (λ (l : List Info). fine (record { info = class_info k l x; values = capped (size_d x); classes = capped (weigh k l x).size; pairs = n })) (sym m)
 
-    go : (b : Bool) → verdict_of k (cond b (select (record { from = ts; test = x; values = xs }) us) (denied 9 0)) ≡ cond b (fine_by (known_of k is next x s) n) (verdict.Refused 9 0)
+    go : (b : Bool) → verdict_of k (cond b (select (record { from = ts; test = x; values = xs }) us) (denied 9 0)) ≡ cond b (fine_by (known_of k is next x s) n) (refusal 9 0)
     go true = unfold verdict_of in sums
     go false = unfold verdict_of in refl
 
@@ -188,7 +184,7 @@ module _ (c ss v : List ℕ) (f : Files) (tables count : ℕ) (w : Rooted c ss v
   abbrev b : Block
   b = w.is_read.tree
 
-  abbrev root_answer : Verdict
+  abbrev root_answer : Checked Sums
   root_answer = verdict_of f.k (resolved_by (tables_from c f.nc f.nc 0) (parse_block v f.n 15 (parse_value v f.n 15) tables count 1))
 
   pub parts : InBlock v f.n (parse_value v f.n 15) tables count 1 w.is_read.tree w.is_read.end
@@ -210,10 +206,13 @@ module _ (c ss v : List ℕ) (f : Files) (tables count : ℕ) (w : Rooted c ss v
   root_room = let h = where_here in omega arith
 
   module _ (o : Opened) (q : o ≡ opened_by ss (tables_named (tables_from c f.nc f.nc 0) (names_at v 1 tables))) where
-    pub root_6 : not o.fine ≡ true → verdict.Refused 6 o.place
+    pub root_6 : not o.fine ≡ true → refusal 6 o.place
         ≡ verdict_of f.k (resolved_by (tables_from c f.nc f.nc 0) (parse_block v f.n 15 (parse_value v f.n 15) tables count 1))
     unfolding with_tabs verdict_of
     root_6 z = sym (by_tables ∙ rw (block_missing ss tabs o q (not_true o.fine z)))
+
+    pub root_place : not o.fine ≡ true → o.place < 65536
+    root_place z = let h = missing_first cat v 1 tables o.place (block_missing ss tabs o q (not_true o.fine z)) in let k = w.few_tables in omega arith
 
     module _ (z : not o.fine ≡ false) where
       pub there : BlockOpened c f.nc (tables_named (tables_from c f.nc f.nc 0) (names_at v 1 tables)) o.scope
@@ -253,13 +252,13 @@ module _ (c ss v : List ℕ) (f : Files) (tables count : ℕ) (w : Rooted c ss v
       by_parts : root_answer ≡ verdict_of f.k (with_test (refs_of tabs) (resolve cat (scopes_of c f.nc (replicate 16 o.scope) 1) b.test) outs)
       by_parts = ap (verdict_of f.k) out_parts
 
-      module _ (l : Typed) (a : l ≡ answer_at c v f (replicate 16 o.scope) 1 15 (1 + tables)) where
-        pub root_refused : (i k : ℕ) → l ≡ typed.Refused i k → verdict.Refused i k
+      module _ (l : Checked Known) (a : l ≡ answer_at c v f (replicate 16 o.scope) 1 15 (1 + tables)) where
+        pub root_refused : (i k : ℕ) → l ≡ refusal i k → refusal i k
             ≡ verdict_of f.k (resolved_by (tables_from c f.nc f.nc 0) (parse_block v f.n 15 (parse_value v f.n 15) tables count 1))
         root_refused i k g =
             sym (by_parts ∙ test_bad f.k _ _ _ i k (typed_refused f.k cat _ (infos_of t 1) _ b.test parts.mid i k parts.first (sym a ∙ g)))
 
-        module _ (x : Known) (g : l ≡ typed.Is x) where
+        module _ (x : Known) (g : l ≡ fine x) where
           known : GoodAt f.k cat (scopes_of c f.nc t 1) (infos_of t 1) b.test parts.mid x
           known = typed_known f.k cat _ (infos_of t 1) _ b.test parts.mid x parts.first (sym a ∙ g)
 
@@ -273,30 +272,30 @@ module _ (c ss v : List ℕ) (f : Files) (tables count : ℕ) (w : Rooted c ss v
           pub values_ready : Several c ss v f (replicate 16 o.scope) count x.next
           values_ready = record { lent = w.lent; sized = refl; is_read = was_read values_at; narrow = root_narrow }
 
-          module _ (r : Counted) (h : r ≡ verdict_all f.k (infos_of (replicate 16 o.scope) 1) (resolved_all (tables_from c f.nc f.nc 0) (scopes_of c f.nc (replicate 16 o.scope) 1) (many (parse_value v f.n 15) count x.next))) where
+          module _ (r : Checked ℕ) (h : r ≡ verdict_all f.k (infos_of (replicate 16 o.scope) 1) (resolved_all (tables_from c f.nc f.nc 0) (scopes_of c f.nc (replicate 16 o.scope) 1) (many (parse_value v f.n 15) count x.next))) where
             outs_are : r ≡ verdict_all f.k (infos_of (replicate 16 o.scope) 1) outs
             unfolding resolved_all
             outs_are = h ∙ rw values_at
 
-            pub values_refused : (i k : ℕ) → r ≡ counted.Refused i k → verdict.Refused i k
+            pub values_refused : (i k : ℕ) → r ≡ refusal i k → refusal i k
                 ≡ verdict_of f.k (resolved_by (tables_from c f.nc f.nc 0) (parse_block v f.n 15 (parse_value v f.n 15) tables count 1))
             values_refused i k j = sym (by_parts ∙ values_bad f.k (infos_of t 1) _ _ outs known.x known.t i k known.resolved (sym outs_are ∙ j))
 
-            module _ (n : ℕ) (j : r ≡ counted.Records n) (kind : ℕ) (m : kind ≡ kind_of x.ty) where
-              judged : root_answer ≡ cond (eqb (kind_of known.t) 1) (fine_by x n) (verdict.Refused 9 0)
+            module _ (n : ℕ) (j : r ≡ fine n) (kind : ℕ) (m : kind ≡ kind_of x.ty) where
+              judged : root_answer ≡ cond (eqb (kind_of known.t) 1) (fine_by x n) (refusal 9 0)
               judged =
                   by_parts
                   ∙ where_judged f.k parts.mid (infos_of t 1) _ _ outs known.x known.t n root_infos known.resolved (sym outs_are ∙ j)
-                  ∙ ap (λ (y : Known). cond (eqb (kind_of known.t) 1) (fine_by y n) (verdict.Refused 9 0)) (sym known.known)
+                  ∙ ap (λ (y : Known). cond (eqb (kind_of known.t) 1) (fine_by y n) (refusal 9 0)) (sym known.known)
 
               kind_is : kind ≡ kind_of known.t
               kind_is = m ∙ ap kind_of type_is
 
-              pub root_fine : kind ≡ 1 → verdict.Fine (record { info = x.info; values = x.values; classes = x.classes; pairs = n })
+              pub root_fine : kind ≡ 1 → fine (record { info = x.info; values = x.values; classes = x.classes; pairs = n })
                   ≡ verdict_of f.k (resolved_by (tables_from c f.nc f.nc 0) (parse_block v f.n 15 (parse_value v f.n 15) tables count 1))
               root_fine e = sym (judged ∙ rw (eq-eqb (kind_of known.t) 1 (sym kind_is ∙ e)))
 
-              pub root_9 : (kind ≡ 1 → ⊥) → verdict.Refused 9 0
+              pub root_9 : (kind ≡ 1 → ⊥) → refusal 9 0
                   ≡ verdict_of f.k (resolved_by (tables_from c f.nc f.nc 0) (parse_block v f.n 15 (parse_value v f.n 15) tables count 1))
               root_9 e = sym (judged ∙ rw (ne_eqb (kind_of known.t) 1 (λ d. e (kind_is ∙ d))))
 
@@ -342,7 +341,7 @@ module _ (c ss v : List ℕ) (f : Files) (w : Accepted c ss v f) where
         let n = count_is in
         rw (n, ← x, ← y) (whole_taken.read ∙ sym whole_taken.whole)
 
-    pub whole_done : (r : Verdict) (o o' s s' : List ℕ) → r ≡ verdict_of f.k (resolved_by (tables_from c f.nc f.nc 0) (parse_block v f.n 15 (parse_value v f.n 15) a b 1))
+    pub whole_done : (r : Checked Sums) (o o' s s' : List ℕ) → r ≡ verdict_of f.k (resolved_by (tables_from c f.nc f.nc 0) (parse_block v f.n 15 (parse_value v f.n 15) a b 1))
         → NotedView (resolved_by (tables_from c f.nc f.nc 0) (parse_block v f.n 15 (parse_value v f.n 15) a b 1)) o o'
         → EndedView f.k (resolved_by (tables_from c f.nc f.nc 0) (parse_block v f.n 15 (parse_value v f.n 15) a b 1)) s s'
         → (r ≡ verdict_of f.k (resolved_by (tables_from c f.nc f.nc 0) (parse_view v)))

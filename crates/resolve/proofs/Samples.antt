@@ -7,6 +7,7 @@ use lib.ListN.{length}
 use Rattle.word.specs.Bytes.{signed32, le16}
 use Rattle.word.specs.Header.{drq, drc, headed, header, count_at}
 use Rattle.word.specs.Record.{rec_at, rec_bytes}
+use Rattle.word.specs.Refusal.{Checked, fine}
 use Rattle.class.specs.Class.{level, mark, lub_of}
 use Rattle.class.specs.Info.{info_by, bound_of, join_i, joins_i, same_i, choice_i}
 use Rattle.class.specs.declared.Info.{Info}
@@ -25,10 +26,6 @@ use Rattle.resolve.specs.Infos.{join_all_i, block_i, class_info}
 use Rattle.resolve.specs.Sizes.{size_d, sized_i, join_w, joins_w, join_all_w, choice_w, bind_size, let_w, rows_w, block_w, weigh, pairs_size, sums_of}
 use Rattle.resolve.specs.Typed.{known_of, typed_at, typed_by}
 use Rattle.resolve.specs.Claims.{resolved_by, verdict_of}
-use Rattle.resolve.specs.declared.Typed.{Typed}
-use Rattle.resolve.specs.declared.Typed.TheVariants.{Is}
-use Rattle.resolve.specs.declared.Verdict.{Verdict}
-use Rattle.resolve.specs.declared.Verdict.TheVariants.{Fine, Refused}
 
 -- the bytes of records
 bytes : List (List ℕ) → List ℕ
@@ -105,43 +102,43 @@ views =
     ∷ []
 
 -- the where is one record, with one for its class
-fine : Info → ℕ → Verdict
-fine i pairs = Fine (record { info = i; values = 1; classes = 1; pairs = pairs })
+taken : Info → ℕ → Checked Sums
+taken i pairs = fine (record { info = i; values = 1; classes = 1; pairs = pairs })
 
-judged : List ℕ → Verdict
+judged : List ℕ → Checked Sums
 judged v = verdict_of 3 (resolved_by (catalogue_of catalogue) (parse_view v))
 
 -- THE TABLE, where the view's constants are of class 3
 worked_views : map judged views ≡
-    fine (Bound 8193) 4
-    ∷ Refused 6 1
-    ∷ Refused 6 4
-    ∷ Refused 7 3
-    ∷ Refused 8 4
-    ∷ fine (Bound 8193) 2
-    ∷ Refused 7 3
-    ∷ Refused 9 0
-    ∷ Refused 7 3
-    ∷ Refused 9 3
-    ∷ Refused 7 5
-    ∷ fine (Fixed 3) 11
-    ∷ Refused 9 3
-    ∷ Refused 9 3
-    ∷ Refused 9 3
-    ∷ fine (Fixed 3) 4
-    ∷ Refused 7 4
-    ∷ Refused 7 5
-    ∷ fine (Fixed 3) 9
-    ∷ Refused 7 6
-    ∷ Refused 9 3
-    ∷ fine (Fixed 3) 8
-    ∷ Refused 9 3
-    ∷ fine (Fixed 3) 13
-    ∷ Refused 9 3
-    ∷ Refused 9 3
-    ∷ Refused 9 3
+    taken (Bound 8193) 4
+    ∷ refusal 6 1
+    ∷ refusal 6 4
+    ∷ refusal 7 3
+    ∷ refusal 8 4
+    ∷ taken (Bound 8193) 2
+    ∷ refusal 7 3
+    ∷ refusal 9 0
+    ∷ refusal 7 3
+    ∷ refusal 9 3
+    ∷ refusal 7 5
+    ∷ taken (Fixed 3) 11
+    ∷ refusal 9 3
+    ∷ refusal 9 3
+    ∷ refusal 9 3
+    ∷ taken (Fixed 3) 4
+    ∷ refusal 7 4
+    ∷ refusal 7 5
+    ∷ taken (Fixed 3) 9
+    ∷ refusal 7 6
+    ∷ refusal 9 3
+    ∷ taken (Fixed 3) 8
+    ∷ refusal 9 3
+    ∷ taken (Fixed 3) 13
+    ∷ refusal 9 3
+    ∷ refusal 9 3
+    ∷ refusal 9 3
     ∷ []
-unfolding bytes catalogue view select table col of classof yes_record op letin one views judged signed32 le16 headed header rec_at rec_bytes info_by digits_rule type_by kind_of digits_of scale_of format_of wider_of sum_type product_type logic_type order_type equal_type binop_type same_type limb_type column_at cols_from table_at tables_from catalogue_of later table_named and_then first_of const_of node_of node_at slot_of enter_node enter many name_of parse_table parse_block parse_node parse_value root_node parse_root parse_view only_of in_cols in_table in_tabs in_scope nearest find before found_at tables_named then col_out class_out on_tabs ruled need_bool brought fold_type ordered_type pick_type resolve also_out resolve_all with_values with_test with_tabs resolve_view resolved_by fine join_i joins_i same_i choice_i bound_of class_info size_d sized_i join_w joins_w join_all_w choice_w bind_size let_w rows_w block_w weigh pairs_size sums_of verdict_of
+unfolding bytes catalogue view select table col of classof yes_record op letin one views judged signed32 le16 headed header rec_at rec_bytes info_by digits_rule type_by kind_of digits_of scale_of format_of wider_of sum_type product_type logic_type order_type equal_type binop_type same_type limb_type column_at cols_from table_at tables_from catalogue_of later table_named and_then first_of const_of node_of node_at slot_of enter_node enter many name_of parse_table parse_block parse_node parse_value root_node parse_root parse_view only_of in_cols in_table in_tabs in_scope nearest find before found_at tables_named then col_out class_out on_tabs ruled need_bool brought fold_type ordered_type pick_type resolve also_out resolve_all with_values with_test with_tabs resolve_view resolved_by taken join_i joins_i same_i choice_i bound_of class_info size_d sized_i join_w joins_w join_all_w choice_w bind_size let_w rows_w block_w weigh pairs_size sums_of verdict_of
 worked_views = refl
 
 -- WHAT IS KNOWN of a few values over a row of table 7, where the view's constants are of class 1
@@ -157,18 +154,18 @@ values =
     ∷ one (rec_bytes 29 0 1 0 0 ∷ table 8 ∷ col 21 ∷ of 7 20 ∷ [])
     ∷ []
 
-known : List ℕ → Typed
+known : List ℕ → Checked Known
 known v = typed_by 1 (catalogue_of catalogue) (block (table_at catalogue 6 0 ∷ []) ∷ []) (Fixed 0 ∷ []) (parse_value v (count_at v) 15 3)
 
 worked_values : map known values ≡
-    Is (record { ty = T.Boolean; info = Bound 8193; next = 6; values = 3; classes = 3 })
-    ∷ Is (record { ty = T.Fixed 4 2; info = Bound 8193; next = 7; values = 5; classes = 6 })
-    ∷ Is (record { ty = T.Boolean; info = Bound 8193; next = 6; values = 3; classes = 4 })
-    ∷ Is (record { ty = T.Boolean; info = Bound 8193; next = 6; values = 3; classes = 3 })
-    ∷ Is (record { ty = T.Boolean; info = Bound 1; next = 6; values = 3; classes = 5 })
-    ∷ Is (record { ty = T.Class; info = Bound 1; next = 7; values = 4; classes = 5 })
-    ∷ Is (record { ty = T.Fixed 4 0; info = Bound 1; next = 6; values = 3; classes = 5 })
-    ∷ Is (record { ty = T.Fixed 4 2; info = Bound 1; next = 7; values = 4; classes = 5 })
+    fine (record { ty = T.Boolean; info = Bound 8193; next = 6; values = 3; classes = 3 })
+    ∷ fine (record { ty = T.Fixed 4 2; info = Bound 8193; next = 7; values = 5; classes = 6 })
+    ∷ fine (record { ty = T.Boolean; info = Bound 8193; next = 6; values = 3; classes = 4 })
+    ∷ fine (record { ty = T.Boolean; info = Bound 8193; next = 6; values = 3; classes = 3 })
+    ∷ fine (record { ty = T.Boolean; info = Bound 1; next = 6; values = 3; classes = 5 })
+    ∷ fine (record { ty = T.Class; info = Bound 1; next = 7; values = 4; classes = 5 })
+    ∷ fine (record { ty = T.Fixed 4 0; info = Bound 1; next = 6; values = 3; classes = 5 })
+    ∷ fine (record { ty = T.Fixed 4 2; info = Bound 1; next = 7; values = 4; classes = 5 })
     ∷ []
 unfolding bytes catalogue view select table col of classof yes_record op letin one values known signed32 le16 headed header rec_at rec_bytes level mark lub_of info_by bound_of join_i joins_i same_i choice_i digits_rule type_by kind_of digits_of scale_of format_of wider_of equal_type binop_type same_type limb_type column_at cols_from table_at tables_from catalogue_of later table_named and_then first_of const_of node_of node_at slot_of enter_node enter many name_of parse_table parse_block parse_node parse_value only_of in_cols in_table in_tabs in_scope nearest find before found_at tables_named then col_out class_out on_tabs ruled need_bool brought fold_type ordered_type pick_type resolve join_all_i block_i class_info size_d sized_i join_w joins_w join_all_w choice_w bind_size let_w rows_w block_w weigh known_of typed_at typed_by
 worked_values = refl

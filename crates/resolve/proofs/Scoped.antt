@@ -7,8 +7,7 @@ use mathlib.Core.List.{List, [], ◌∷◌, map}
 use native.Mathlib.Omega.{arith}
 use lib.ListN.{length, get_or, set, length-set}
 use lib.Seq.{set-set, set-get_or}
-use types.Run.{OneOf, miss}
-use denote.Enum.Declared.{tag_of}
+use Rattle.word.specs.Refusal.{Checked, fine, refusal}
 use Rattle.class.specs.declared.Info.TheVariants.{Fixed}
 use Rattle.cell.specs.Res.{Res, stuck, done}
 use Rattle.catalogue.specs.Tables.{Table, TabRef, table_named, tables_from}
@@ -20,7 +19,6 @@ use Rattle.view.specs.declared.Fold.{Fold}
 use Rattle.view.specs.declared.Pick.{Pick}
 use Rattle.view.specs.declared.Node.{Node}
 use Rattle.view.specs.declared.Node.TheVariants.{Const, Binop, Not, If, Exists, Single, Table as TableNode, Select, Col, Classof, Let, Bad}
-use Rattle.view.specs.contracts.Node.{the_type}
 use Rattle.view.proofs.Read as read
 use Rattle.view.proofs.Read.{One, Two, Listed, was_read}
 use Rattle.view.proofs.Says.{exists_few, single_few}
@@ -34,14 +32,12 @@ use Rattle.scope.specs.declared.Opened.{Opened}
 use Rattle.scope.proofs.Pushes as push
 use Rattle.scope.proofs.Named.{BlockOpened, block_missing, block_opened, names_length}
 use Rattle.resolve.specs.Typed.{known_of, typed_by}
-use Rattle.resolve.specs.Steps.{let_k, let_t, refs_to, exists_t, single_t}
-use Rattle.resolve.specs.Claims.{Narrow, Ready, Opening, Tabled, answer_at, block_node, asked_of, count_of}
+use Rattle.resolve.specs.Steps.{let_k, refs_to, exists_t, single_t}
+use Rattle.resolve.specs.Claims.{Narrow, Ready, Opening, Tabled, answer_at, block_node}
 use Rattle.resolve.specs.declared.Asked.{Asked}
 use Rattle.resolve.specs.declared.Asked.TheVariants as ask
 use Rattle.resolve.specs.declared.Files.{Files}
 use Rattle.resolve.specs.declared.Known.{Known}
-use Rattle.resolve.specs.declared.Typed.{Typed}
-use Rattle.resolve.specs.declared.Typed.TheVariants as typed
 use Rattle.resolve.proofs.Inversion.{typed_known}
 use Rattle.resolve.proofs.Narrow.{narrow_push, narrow_entry, narrow_local, narrow_type}
 use Rattle.resolve.proofs.Equations.{then_t, let_step, exists_step, exists_missing, single_step, single_missing}
@@ -65,25 +61,6 @@ pub single_node : (v : List ℕ) (at a : ℕ) (q : Pick) (nd : Node) → nd ≡ 
 unfolding block_node
 single_node v at a q nd e g = sym e ∙ g
 
--- a node of one of a block's two kinds
-pub block_node_lem : (v : List ℕ) (at : ℕ) (nd : Node) (a : Asked) (n : ℕ) → nd ≡ node_at v at → OneOf (4 ∷ 5 ∷ []) (tag_of the_type nd) → a ≡ asked_of nd → n ≡ count_of nd → node_at v at ≡ block_node a n
-unfolding block_node asked_of count_of
-block_node_lem v at nd a n e k h i = sym e ∙ is nd k ∙ sym (ap₂ block_node h i)
-  where
-    is : (m : Node) → OneOf (4 ∷ 5 ∷ []) (tag_of the_type m) → m ≡ block_node (asked_of m) (count_of m)
-    is (Exists c q) h = refl
-    is (Single c g) h = refl
-    is (Const t x) h = absurd (miss (4 ∷ 5 ∷ []) 0 tt h)
-    is (Binop op) h = absurd (miss (4 ∷ 5 ∷ []) 1 tt h)
-    is Not h = absurd (miss (4 ∷ 5 ∷ []) 2 tt h)
-    is If h = absurd (miss (4 ∷ 5 ∷ []) 3 tt h)
-    is (TableNode x) h = absurd (miss (4 ∷ 5 ∷ []) 6 tt h)
-    is (Select x y) h = absurd (miss (4 ∷ 5 ∷ []) 7 tt h)
-    is (Col x y) h = absurd (miss (4 ∷ 5 ∷ []) 8 tt h)
-    is (Classof x y) h = absurd (miss (4 ∷ 5 ∷ []) 9 tt h)
-    is (Let x) h = absurd (miss (4 ∷ 5 ∷ []) 10 tt h)
-    is Bad h = absurd (miss (4 ∷ 5 ∷ []) 11 tt h)
-
 -- the table's word at the scope that was opened, put back
 pub closed : (h₀ h₁ : List ℕ) (d w : ℕ) → h₁ ≡ set h₀ d w → set h₁ d (get_or h₀ d 0) ≡ h₀
 closed h₀ h₁ d w e = ap (λ (l : List ℕ). set l d (get_or h₀ d 0)) e ∙ set-set h₀ d w (get_or h₀ d 0) ∙ set-get_or h₀ d 0
@@ -91,11 +68,8 @@ closed h₀ h₁ d w e = ap (λ (l : List ℕ). set l d (get_or h₀ d 0)) e ∙
 pub also : {A B C : Type 0} → A × B → C → A × (B × C)
 also p c = (p.0, (p.1, c))
 
-pub let_node : (v : List ℕ) (at name : ℕ) (nd : Node) → nd ≡ node_at v at → nd ≡ Let name → node_at v at ≡ Let name
-let_node v at name nd e g = sym e ∙ g
-
 -- the first table that is missing is one of those named
-missing_first : (cat : List Table) (v : List ℕ) (at count p : ℕ) → tables_named cat (names_at v at count) ≡ missing p → p < at + count
+pub missing_first : (cat : List Table) (v : List ℕ) (at count p : ℕ) → tables_named cat (names_at v at count) ≡ missing p → p < at + count
 unfolding tables_named names_at found_at before
 missing_first cat v at zero p e = absurd (let z : ◌≡◌ {A = ℕ} 0 1 = cc in omega arith)
 missing_first cat v at (suc count) p e = go (table_named (name_of (node_at v at)) cat) (tables_named cat (names_at v (at + 1) count)) (missing_first cat v (at + 1) count p) e
@@ -104,11 +78,6 @@ missing_first cat v at (suc count) p e = go (table_named (name_of (node_at v at)
     go stuck r h k = let z : at ≡ p = cc in omega arith
     go (done t) (all ts) h k = absurd (let z : ◌≡◌ {A = ℕ} 0 1 = cc in omega arith)
     go (done t) (missing q) h k = let l = h k in omega arith
-
-let_then : (x : Known) (r : Typed) → let_t x r ≡ then_t r (λ y. typed.Is (let_k x y))
-unfolding let_t then_t
-let_then x (typed.Is y) = refl
-let_then x (typed.Refused i p) = refl
 
 module _ (c ss v : List ℕ) (f : Files) where
   abbrev cat : List Table
@@ -132,18 +101,18 @@ module _ (c ss v : List ℕ) (f : Files) where
     pub let_ready : Ready c ss v f t deep (d - 1) (at + 1)
     let_ready = child c ss v f t t deep deep d at (at + 1) w w.sized (omega arith) (was_read two_let.first) w.narrow
 
-    abbrev bodied : Known → Typed
+    abbrev bodied : Known → Checked Known
     bodied x =
         then_t (typed_by f.k (tables_from c f.nc f.nc 0) (local name x.ty ∷ scopes_of c f.nc t deep) (x.info ∷ infos_of t deep) (parse_value v f.n (d - 1) x.next))
-        (λ y. typed.Is (let_k x y))
+        (λ y. fine (let_k x y))
 
     let_whole : answer_at c v f t deep d at ≡ then_t (answer_at c v f t deep (d - 1) (at + 1)) bodied
     let_whole = let_step f.k _ _ _ _ at _ name two_let
 
-    pub let_refused : (l : Typed) → l ≡ answer_at c v f t deep (d - 1) (at + 1) → (i p : ℕ) → l ≡ typed.Refused i p → typed.Refused i p ≡ answer_at c v f t deep d at
+    pub let_refused : (l : Checked Known) → l ≡ answer_at c v f t deep (d - 1) (at + 1) → (i p : ℕ) → l ≡ refusal i p → refusal i p ≡ answer_at c v f t deep d at
     let_refused l a i p b = sym (let_whole ∙ then_refused _ i p _ (sym a ∙ b))
 
-    module _ (x : Known) (b : answer_at c v f t deep (d - 1) (at + 1) ≡ typed.Is x) (s : Scope) (u : List Scope) (p : s ≡ local_scope name x.ty x.info) (q : u ≡ set t deep s) where
+    module _ (x : Known) (b : answer_at c v f t deep (d - 1) (at + 1) ≡ fine x) (s : Scope) (u : List Scope) (p : s ≡ local_scope name x.ty x.info) (q : u ≡ set t deep s) where
       body_narrow : Narrow x.ty
       unfolding known_of
       body_narrow =
@@ -162,11 +131,15 @@ module _ (c ss v : List ℕ) (f : Files) where
       body_infos : infos_of u (deep + 1) ≡ x.info ∷ infos_of t deep
       body_infos = push.local_infos c f.nc t u deep s q (push_room t deep d at w) w.sized name x.ty x.info p
 
-      body_whole : answer_at c v f t deep d at ≡ then_t (answer_at c v f u (deep + 1) (d - 1) x.next) (λ y. typed.Is (let_k x y))
+      body_whole : answer_at c v f t deep d at ≡ then_t (answer_at c v f u (deep + 1) (d - 1) x.next) (λ y. fine (let_k x y))
       body_whole = let_whole ∙ then_is _ x bodied b ∙ rw (← body_scopes, ← body_infos)
 
-      pub let_done : (r s : Typed) → r ≡ answer_at c v f u (deep + 1) (d - 1) x.next → s ≡ let_t x r → s ≡ answer_at c v f t deep d at
-      let_done r s h m = m ∙ let_then x r ∙ sym (body_whole ∙ ap (λ (z : Typed). then_t z (λ y. typed.Is (let_k x y))) (sym h))
+      module _ (r : Checked Known) (h : r ≡ answer_at c v f u (deep + 1) (d - 1) x.next) where
+        pub body_refused : (i k : ℕ) → r ≡ refusal i k → refusal i k ≡ answer_at c v f t deep d at
+        body_refused i k j = sym (body_whole ∙ then_refused _ i k _ (sym h ∙ j))
+
+        pub let_done : (y z : Known) → r ≡ fine y → z ≡ let_k x y → fine z ≡ answer_at c v f t deep d at
+        let_done y z j m = ap fine m ∙ sym (body_whole ∙ then_is _ y _ (sym h ∙ j))
 
   -- a block's node
   module _ (t : List Scope) (deep d at : ℕ) (w : Ready c ss v f t deep d at) (asked : Asked) (count : ℕ) (g : node_at v at ≡ block_node asked count) where
@@ -213,13 +186,13 @@ module _ (c ss v : List ℕ) (f : Files) where
       pub block_place : not o.fine ≡ true → o.place < 65536
       block_place z = let h = missing_first cat v (at + 1) count o.place (block_missing ss tabs o p (not_true o.fine z)) in let k = block_next in omega arith
 
-      pub block_6 : not o.fine ≡ true → typed.Refused 6 o.place ≡ answer_at c v f t deep d at
+      pub block_6 : not o.fine ≡ true → refusal 6 o.place ≡ answer_at c v f t deep d at
       block_6 z = go asked refl
         where
           gone : tabs ≡ missing o.place
           gone = block_missing ss tabs o p (not_true o.fine z)
 
-          go : (b : Asked) → asked ≡ b → typed.Refused 6 o.place ≡ answer_at c v f t deep d at
+          go : (b : Asked) → asked ≡ b → refusal 6 o.place ≡ answer_at c v f t deep d at
           go (ask.Rows q) e = sym (exists_missing f.k cat _ _ _ at _ (at + 1 + count) _ q o.place (exists_one q e) gone)
           go (ask.Values q) e = sym (single_missing f.k cat _ _ _ at _ (at + 1 + count) _ q o.place (single_two q e) gone)
 
@@ -257,16 +230,16 @@ module _ (c ss v : List ℕ) (f : Files) where
               → answer_at c v f t deep d at ≡ then_t (answer_at c v f u (deep + 1) (d - 1) (at + 1 + count)) (λ x. then_t (answer_at c v f u (deep + 1) (d - 1) x.next) (single_t at h (refs_of tabs) x))
           single_whole h e = single_step f.k cat _ _ _ at _ (at + 1 + count) _ h (refs_of tabs) (single_two h e) there.found ∙ rw (← block_scopes, ← block_infos)
 
-          module _ (l : Typed) (a : l ≡ answer_at c v f u (deep + 1) (d - 1) (at + 1 + count)) where
-            pub where_refused : (i k : ℕ) → l ≡ typed.Refused i k → typed.Refused i k ≡ answer_at c v f t deep d at
+          module _ (l : Checked Known) (a : l ≡ answer_at c v f u (deep + 1) (d - 1) (at + 1 + count)) where
+            pub where_refused : (i k : ℕ) → l ≡ refusal i k → refusal i k ≡ answer_at c v f t deep d at
             where_refused i k b = go asked refl
               where
-                go : (s : Asked) → asked ≡ s → typed.Refused i k ≡ answer_at c v f t deep d at
+                go : (s : Asked) → asked ≡ s → refusal i k ≡ answer_at c v f t deep d at
                 go (ask.Rows h) e = sym (exists_whole h e ∙ then_refused _ i k _ (sym a ∙ b))
                 go (ask.Values h) e = sym (single_whole h e ∙ then_refused _ i k _ (sym a ∙ b))
 
-            module _ (x : Known) (b : l ≡ typed.Is x) where
-              pub exists_done : (j : Fold) (r : Typed) → asked ≡ ask.Rows j → r ≡ exists_t at j (refs_to (tables_in (open_of c f.nc o.scope))) x → r ≡ answer_at c v f t deep d at
+            module _ (x : Known) (b : l ≡ fine x) where
+              pub exists_done : (j : Fold) (r : Checked Known) → asked ≡ ask.Rows j → r ≡ exists_t at j (refs_to (tables_in (open_of c f.nc o.scope))) x → r ≡ answer_at c v f t deep d at
               exists_done j r e h =
                   h ∙ ap (λ (us : List Table). exists_t at j (refs_to us) x) own_tables ∙ sym (own_exists (refs_of tabs) at j x)
                   ∙ sym (exists_whole j e ∙ then_is _ x _ (sym a ∙ b))
@@ -281,11 +254,11 @@ module _ (c ss v : List ℕ) (f : Files) where
                 value_whole : answer_at c v f t deep d at ≡ then_t (answer_at c v f u (deep + 1) (d - 1) x.next) (single_t at pick (refs_of tabs) x)
                 value_whole = single_whole pick e ∙ then_is _ x _ (sym a ∙ b)
 
-                module _ (r : Typed) (h : r ≡ answer_at c v f u (deep + 1) (d - 1) x.next) where
-                  pub value_refused : (i k : ℕ) → r ≡ typed.Refused i k → typed.Refused i k ≡ answer_at c v f t deep d at
+                module _ (r : Checked Known) (h : r ≡ answer_at c v f u (deep + 1) (d - 1) x.next) where
+                  pub value_refused : (i k : ℕ) → r ≡ refusal i k → refusal i k ≡ answer_at c v f t deep d at
                   value_refused i k j = sym (value_whole ∙ then_refused _ i k _ (sym h ∙ j))
 
-                  pub single_done : (y : Known) (s : Typed) → r ≡ typed.Is y → s ≡ single_t at pick (refs_to (tables_in (open_of c f.nc o.scope))) x y → s ≡ answer_at c v f t deep d at
+                  pub single_done : (y : Known) (s : Checked Known) → r ≡ fine y → s ≡ single_t at pick (refs_to (tables_in (open_of c f.nc o.scope))) x y → s ≡ answer_at c v f t deep d at
                   single_done y s j m =
                       m ∙ ap (λ (us : List Table). single_t at pick (refs_to us) x y) own_tables ∙ sym (own_single (refs_of tabs) at pick x y)
                       ∙ sym (value_whole ∙ then_is _ y _ (sym h ∙ j))

@@ -9,6 +9,7 @@ use borrow.Author.Rules.{rules}
 use borrow.Author.Tests.{eq-eqb, ne_eqb}
 use lib.ListN.{length, get_or, drop, drop_of_length-le}
 use lib.Seq.{drop-cons}
+use Rattle.word.specs.Refusal.{fine, refusal}
 use Rattle.class.specs.Class.{lub_all}
 use Rattle.class.specs.Info.{bound_of, join_i, choice_i}
 use Rattle.class.specs.declared.Info.{Info}
@@ -32,9 +33,8 @@ use Rattle.resolve.specs.Steps.{class_of, stopped, known_by, agg_w, refs_to, exi
 use Rattle.resolve.specs.Claims.{Opening}
 use Rattle.resolve.specs.declared.Weighed.{Weighed}
 use Rattle.resolve.specs.declared.Known.{Known}
-use Rattle.resolve.specs.declared.Typed.TheVariants as typed
 use Rattle.resolve.proofs.Weights.{block_info, Alike, alike_refl, alike_trans, all_refl, joins_alike, weighed_alike, join_alike, choice_alike, agg_alike, known_alike}
-use Rattle.resolve.proofs.Leaves.{stopped_alike, alike_stopped, judged_is, judged_broken}
+use Rattle.resolve.proofs.Leaves.{stopped_alike, alike_stopped}
 
 -- two weights whose stopped ones are equal
 pub alike_both : (x y : Weighed) → stopped x ≡ stopped y → Alike x y
@@ -247,32 +247,8 @@ row_is q p u none choice part r x y a b d e f g =
     (join_alike part _ choice _ (rw (← e) (alike_stopped part _ f))
     (alike_trans choice (choice_w x.values u none) _ (alike_stopped choice _ d) (choice_alike x.values x.values u _ none _ refl (rw b (alike_refl _)) (alike_stopped none _ a))))
 
--- the where's type, then the rule of MAX and MIN
-module _ (at : ℕ) (ts : List TabRef) (x : Known) (kind : ℕ) (e : kind ≡ kind_of x.ty) where
-  pub exists_bool : (q : Fold) (r : Known) → kind ≡ 1 → r ≡ exists_k q ts x → typed.Is r ≡ exists_t at q ts x
-  unfolding exists_t bool_t
-  exists_bool q r f g = rw (eq-eqb (kind_of x.ty) 1 (sym e ∙ f), g)
-
-  pub exists_other : (q : Fold) → (kind ≡ 1 → ⊥) → typed.Refused 9 at ≡ exists_t at q ts x
-  unfolding exists_t bool_t
-  exists_other q f = rw (ne_eqb (kind_of x.ty) 1 (λ h. f (e ∙ h)))
-
-  module _ (q : Pick) (y : Known) where
-    pub single_other : (kind ≡ 1 → ⊥) → typed.Refused 9 at ≡ single_t at q ts x y
-    unfolding single_t bool_t
-    single_other f = rw (ne_eqb (kind_of x.ty) 1 (λ h. f (e ∙ h)))
-
-    module _ (f : kind ≡ 1) (j : Judged) (g : j ≡ judged_of (pick_type q y.ty)) where
-      pub single_ruled : (u : Ty) (r : Known) → j ≡ J.Is u → r ≡ single_k u ts x y → typed.Is r ≡ single_t at q ts x y
-      unfolding single_t bool_t ruled_t
-      single_ruled u r h i = rw (eq-eqb (kind_of x.ty) 1 (sym e ∙ f), judged_is _ u (sym g ∙ h), i)
-
-      pub single_broken : j ≡ J.Broken → typed.Refused 9 at ≡ single_t at q ts x y
-      unfolding single_t bool_t ruled_t
-      single_broken h = rw (eq-eqb (kind_of x.ty) 1 (sym e ∙ f), judged_broken _ (sym g ∙ h))
-
 pub ruleset rowed = (rows_begin, rows_again, rows_done, agg_is, row_is, rules)
 
 pub ruleset informed = (agg_info_is, exists_info_is, single_info_is, rules)
 
-pub ruleset blocked = (exists_is, single_is, exists_bool, exists_other, single_other, single_ruled, single_broken, rules)
+pub ruleset blocked = (exists_is, single_is, rules)

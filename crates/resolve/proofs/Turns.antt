@@ -5,6 +5,7 @@ use mathlib.Core.Path.{◌≡◌, sym, ap, ◌∙◌}
 use mathlib.Core.List.{List}
 use native.Mathlib.Omega.{arith}
 use lib.ListN.{length, get_or}
+use Rattle.word.specs.Refusal.{Checked, fine, refusal}
 use Rattle.class.specs.declared.Info.{Info}
 use Rattle.class.specs.declared.Info.TheVariants.{Fixed}
 use Rattle.cell.specs.declared.Type.{«Type» as Ty}
@@ -28,23 +29,21 @@ use Rattle.resolve.specs.Steps.{leaf_k, two_t, not_t, if_t, col_t, class_t}
 use Rattle.resolve.specs.Claims.{Narrow, Ready, answer_at}
 use Rattle.resolve.specs.declared.Files.{Files}
 use Rattle.resolve.specs.declared.Known.{Known}
-use Rattle.resolve.specs.declared.Typed.{Typed}
-use Rattle.resolve.specs.declared.Typed.TheVariants as typed
 use Rattle.resolve.proofs.Inversion.{typed_known}
 use Rattle.resolve.proofs.Equations.{then_t, const_step, col_step, classof_step, not_step, binop_step, if_step}
 
 -- a chain, by what its first link answered
-pub then_is : (l : Typed) (x : Known) (g : Known → Typed) → l ≡ typed.Is x → then_t l g ≡ g x
+pub then_is : (l : Checked Known) (x : Known) (g : Known → Checked Known) → l ≡ fine x → then_t l g ≡ g x
 unfolding then_t
 then_is l x g e = rw e
 
-pub then_refused : (l : Typed) (i p : ℕ) (g : Known → Typed) → l ≡ typed.Refused i p → then_t l g ≡ typed.Refused i p
+pub then_refused : (l : Checked Known) (i p : ℕ) (g : Known → Checked Known) → l ≡ refusal i p → then_t l g ≡ refusal i p
 unfolding then_t
 then_refused l i p g e = rw e
 
 -- a child's answer tells where the next child stands
 pub after : (k : ℕ) (cat : List Table) (Γ : List Open) (is : List Info) (P : Parsed Exp) {e : Exp} {mid : ℕ} {x : Known}
-    → P ≡ ok e mid → typed_by k cat Γ is P ≡ typed.Is x → mid ≡ x.next
+    → P ≡ ok e mid → typed_by k cat Γ is P ≡ fine x → mid ≡ x.next
 unfolding known_of
 after k cat Γ is P {e} {mid} {x} f g = sym (ap (λ (h : Known). h.next) (typed_known k cat Γ is P e mid x f g).known)
 
@@ -64,78 +63,78 @@ module _ (c ss v : List ℕ) (f : Files) where
     same : (m : ℕ) → WasRead (parse_value v f.n (d - 1) m) → Ready c ss v f t deep (d - 1) m
     same m r = child t t deep deep d at m w w.sized (omega arith) r w.narrow
 
-    pub t_const : (ty : Ty) (x : Value) (r : Known) → nd ≡ Const ty x → r ≡ leaf_k ty (Fixed f.k) (at + 1) → typed.Is r ≡ answer_at c v f t deep d at
-    t_const ty x r g h = ap typed.Is h ∙ sym (const_step f.k _ _ _ (parse_value v f.n (d - 1)) at _ ty x (read.const_read v f.n d at w.is_read e g))
+    pub t_const : (ty : Ty) (x : Value) (r : Known) → nd ≡ Const ty x → r ≡ leaf_k ty (Fixed f.k) (at + 1) → fine r ≡ answer_at c v f t deep d at
+    t_const ty x r g h = ap fine h ∙ sym (const_step f.k _ _ _ (parse_value v f.n (d - 1)) at _ ty x (read.const_read v f.n d at w.is_read e g))
 
-    pub t_col : (name q : ℕ) (h : Found) (r : Typed) → nd ≡ Col name q
+    pub t_col : (name q : ℕ) (h : Found) (r : Checked Known) → nd ≡ Col name q
         → h ≡ found_of (infos_of t deep) (find name q 0 (scopes_of c f.nc t deep)) → r ≡ col_t at h → r ≡ answer_at c v f t deep d at
     t_col name q h r g i j =
         j ∙ ap (col_t at) i ∙ sym (col_step f.k _ _ _ (parse_value v f.n (d - 1)) at _ name q (read.col_read v f.n d at w.is_read e g))
 
-    pub t_classof : (name q : ℕ) (h : Found) (r : Typed) → nd ≡ Classof name q
+    pub t_classof : (name q : ℕ) (h : Found) (r : Checked Known) → nd ≡ Classof name q
         → h ≡ found_of (infos_of t deep) (find name q 0 (scopes_of c f.nc t deep)) → r ≡ class_t at h → r ≡ answer_at c v f t deep d at
     t_classof name q h r g i j =
         j ∙ ap (class_t at) i ∙ sym (classof_step f.k _ _ _ (parse_value v f.n (d - 1)) at _ name q (read.classof_read v f.n d at w.is_read e g))
 
     -- no other node stands here
-    pub t_table : (name i p : ℕ) → nd ≡ Tab name → typed.Refused i p ≡ answer_at c v f t deep d at
+    pub t_table : (name i p : ℕ) → nd ≡ Tab name → refusal i p ≡ answer_at c v f t deep d at
     t_table name i p g = absurd (read.no_table v f.n d at w.is_read e g)
 
-    pub t_select : (a b i p : ℕ) → nd ≡ Select a b → typed.Refused i p ≡ answer_at c v f t deep d at
+    pub t_select : (a b i p : ℕ) → nd ≡ Select a b → refusal i p ≡ answer_at c v f t deep d at
     t_select a b i p g = absurd (read.no_select v f.n d at w.is_read e g)
 
-    pub t_bad : (i p : ℕ) → nd ≡ Bad → typed.Refused i p ≡ answer_at c v f t deep d at
+    pub t_bad : (i p : ℕ) → nd ≡ Bad → refusal i p ≡ answer_at c v f t deep d at
     t_bad i p g = absurd (read.no_bad v f.n d at w.is_read e g)
 
     -- NOT
     pub not_ready : nd ≡ Not → Ready c ss v f t deep (d - 1) (at + 1)
     not_ready g = same (at + 1) (was_read (read.not_read v f.n d at w.is_read e g).first)
 
-    module _ (g : nd ≡ Not) (l : Typed) (a : l ≡ answer_at c v f t deep (d - 1) (at + 1)) where
+    module _ (g : nd ≡ Not) (l : Checked Known) (a : l ≡ answer_at c v f t deep (d - 1) (at + 1)) where
       not_whole : answer_at c v f t deep d at ≡ then_t l (not_t at)
-      not_whole = not_step f.k _ _ _ _ at _ (read.not_read v f.n d at w.is_read e g) ∙ ap (λ (z : Typed). then_t z (not_t at)) (sym a)
+      not_whole = not_step f.k _ _ _ _ at _ (read.not_read v f.n d at w.is_read e g) ∙ ap (λ (z : Checked Known). then_t z (not_t at)) (sym a)
 
-      pub not_refused : (i p : ℕ) → l ≡ typed.Refused i p → typed.Refused i p ≡ answer_at c v f t deep d at
+      pub not_refused : (i p : ℕ) → l ≡ refusal i p → refusal i p ≡ answer_at c v f t deep d at
       not_refused i p b = sym (not_whole ∙ then_refused l i p _ b)
 
-      pub not_done : (x : Known) (r : Typed) → l ≡ typed.Is x → r ≡ not_t at x → r ≡ answer_at c v f t deep d at
+      pub not_done : (x : Known) (r : Checked Known) → l ≡ fine x → r ≡ not_t at x → r ≡ answer_at c v f t deep d at
       not_done x r b h = h ∙ sym (not_whole ∙ then_is l x _ b)
 
     -- BINOP
     pub left_ready : (op : ℕ) → nd ≡ Binop op → Ready c ss v f t deep (d - 1) (at + 1)
     left_ready op g = same (at + 1) (was_read (read.binop_read v f.n d at w.is_read e g).first)
 
-    module _ (op : ℕ) (g : nd ≡ Binop op) (l : Typed) (a : l ≡ answer_at c v f t deep (d - 1) (at + 1)) where
+    module _ (op : ℕ) (g : nd ≡ Binop op) (l : Checked Known) (a : l ≡ answer_at c v f t deep (d - 1) (at + 1)) where
       two_binop : Two (parse_value v f.n (d - 1)) (at + 1) (parse_value v f.n d at) (ast.Exp.binop at op)
       two_binop = read.binop_read v f.n d at w.is_read e g
 
       two_whole : answer_at c v f t deep d at ≡ then_t l (λ x. then_t (answer_at c v f t deep (d - 1) x.next) (two_t at op x))
       two_whole =
           binop_step f.k _ _ _ _ at _ op two_binop
-          ∙ ap (λ (z : Typed). then_t z (λ x. then_t (answer_at c v f t deep (d - 1) x.next) (two_t at op x))) (sym a)
+          ∙ ap (λ (z : Checked Known). then_t z (λ x. then_t (answer_at c v f t deep (d - 1) x.next) (two_t at op x))) (sym a)
 
-      pub left_refused : (i p : ℕ) → l ≡ typed.Refused i p → typed.Refused i p ≡ answer_at c v f t deep d at
+      pub left_refused : (i p : ℕ) → l ≡ refusal i p → refusal i p ≡ answer_at c v f t deep d at
       left_refused i p b = sym (two_whole ∙ then_refused l i p _ b)
 
-      module _ (x : Known) (b : l ≡ typed.Is x) where
+      module _ (x : Known) (b : l ≡ fine x) where
         pub right_ready : Ready c ss v f t deep (d - 1) x.next
         right_ready = same x.next (rw (after _ _ _ _ _ two_binop.first (sym a ∙ b)) at (was_read two_binop.second))
 
         right_whole : answer_at c v f t deep d at ≡ then_t (answer_at c v f t deep (d - 1) x.next) (two_t at op x)
         right_whole = two_whole ∙ then_is l x _ b
 
-        module _ (r : Typed) (h : r ≡ answer_at c v f t deep (d - 1) x.next) where
-          pub right_refused : (i p : ℕ) → r ≡ typed.Refused i p → typed.Refused i p ≡ answer_at c v f t deep d at
+        module _ (r : Checked Known) (h : r ≡ answer_at c v f t deep (d - 1) x.next) where
+          pub right_refused : (i p : ℕ) → r ≡ refusal i p → refusal i p ≡ answer_at c v f t deep d at
           right_refused i p j = sym (right_whole ∙ then_refused _ i p _ (sym h ∙ j))
 
-          pub binop_done : (y : Known) (s : Typed) → r ≡ typed.Is y → s ≡ two_t at op x y → s ≡ answer_at c v f t deep d at
+          pub binop_done : (y : Known) (s : Checked Known) → r ≡ fine y → s ≡ two_t at op x y → s ≡ answer_at c v f t deep d at
           binop_done y s j m = m ∙ sym (right_whole ∙ then_is _ y _ (sym h ∙ j))
 
     -- IF
     pub if_ready : nd ≡ If → Ready c ss v f t deep (d - 1) (at + 1)
     if_ready g = same (at + 1) (was_read (read.if_read v f.n d at w.is_read e g).first)
 
-    module _ (g : nd ≡ If) (l : Typed) (a : l ≡ answer_at c v f t deep (d - 1) (at + 1)) where
+    module _ (g : nd ≡ If) (l : Checked Known) (a : l ≡ answer_at c v f t deep (d - 1) (at + 1)) where
       three_if : Three (parse_value v f.n (d - 1)) (at + 1) (parse_value v f.n d at) (ast.Exp.if at)
       three_if = read.if_read v f.n d at w.is_read e g
 
@@ -143,12 +142,12 @@ module _ (c ss v : List ℕ) (f : Files) where
           ≡ then_t l (λ x. then_t (answer_at c v f t deep (d - 1) x.next) (λ y. then_t (answer_at c v f t deep (d - 1) y.next) (if_t at x y)))
       if_whole =
           if_step f.k _ _ _ _ at _ three_if
-          ∙ ap (λ (z : Typed). then_t z (λ x. then_t (answer_at c v f t deep (d - 1) x.next) (λ y. then_t (answer_at c v f t deep (d - 1) y.next) (if_t at x y)))) (sym a)
+          ∙ ap (λ (z : Checked Known). then_t z (λ x. then_t (answer_at c v f t deep (d - 1) x.next) (λ y. then_t (answer_at c v f t deep (d - 1) y.next) (if_t at x y)))) (sym a)
 
-      pub if_refused : (i p : ℕ) → l ≡ typed.Refused i p → typed.Refused i p ≡ answer_at c v f t deep d at
+      pub if_refused : (i p : ℕ) → l ≡ refusal i p → refusal i p ≡ answer_at c v f t deep d at
       if_refused i p b = sym (if_whole ∙ then_refused l i p _ b)
 
-      module _ (x : Known) (b : l ≡ typed.Is x) where
+      module _ (x : Known) (b : l ≡ fine x) where
         second_at : parse_value v f.n (d - 1) x.next ≡ ok three_if.y three_if.late
         second_at = rw (after _ _ _ _ _ three_if.first (sym a ∙ b)) at three_if.second
 
@@ -158,20 +157,20 @@ module _ (c ss v : List ℕ) (f : Files) where
         second_whole : answer_at c v f t deep d at ≡ then_t (answer_at c v f t deep (d - 1) x.next) (λ y. then_t (answer_at c v f t deep (d - 1) y.next) (if_t at x y))
         second_whole = if_whole ∙ then_is l x _ b
 
-        module _ (r : Typed) (h : r ≡ answer_at c v f t deep (d - 1) x.next) where
-          pub second_refused : (i p : ℕ) → r ≡ typed.Refused i p → typed.Refused i p ≡ answer_at c v f t deep d at
+        module _ (r : Checked Known) (h : r ≡ answer_at c v f t deep (d - 1) x.next) where
+          pub second_refused : (i p : ℕ) → r ≡ refusal i p → refusal i p ≡ answer_at c v f t deep d at
           second_refused i p j = sym (second_whole ∙ then_refused _ i p _ (sym h ∙ j))
 
-          module _ (y : Known) (j : r ≡ typed.Is y) where
+          module _ (y : Known) (j : r ≡ fine y) where
             pub third_ready : Ready c ss v f t deep (d - 1) y.next
             third_ready = same y.next (rw (after _ _ _ _ _ second_at (sym h ∙ j)) at (was_read three_if.third))
 
             third_whole : answer_at c v f t deep d at ≡ then_t (answer_at c v f t deep (d - 1) y.next) (if_t at x y)
             third_whole = second_whole ∙ then_is _ y _ (sym h ∙ j)
 
-            module _ (s : Typed) (o : s ≡ answer_at c v f t deep (d - 1) y.next) where
-              pub third_refused : (i p : ℕ) → s ≡ typed.Refused i p → typed.Refused i p ≡ answer_at c v f t deep d at
+            module _ (s : Checked Known) (o : s ≡ answer_at c v f t deep (d - 1) y.next) where
+              pub third_refused : (i p : ℕ) → s ≡ refusal i p → refusal i p ≡ answer_at c v f t deep d at
               third_refused i p q = sym (third_whole ∙ then_refused _ i p _ (sym o ∙ q))
 
-              pub if_done : (z : Known) (u : Typed) → s ≡ typed.Is z → u ≡ if_t at x y z → u ≡ answer_at c v f t deep d at
+              pub if_done : (z : Known) (u : Checked Known) → s ≡ fine z → u ≡ if_t at x y z → u ≡ answer_at c v f t deep d at
               if_done z u q m = m ∙ sym (third_whole ∙ then_is _ z _ (sym o ∙ q))

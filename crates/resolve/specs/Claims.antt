@@ -1,18 +1,17 @@
 -- What the walk requires of its caller, and its answer for a whole view.
 -- Assumes nothing.
 use Rattle.std.specs.Prelude.{ℕ, ◌+◌, ◌*◌, ◌<◌, ◌≤◌, ◌≡◌, List, length, get_or}
+use Rattle.word.specs.Refusal.{Checked, fine, refusal}
 use Rattle.class.specs.declared.Info.{Info}
 use Rattle.cell.specs.Types.{digits_of, scale_of}
 use Rattle.cell.specs.declared.Type.{«Type» as Ty}
 use Rattle.catalogue.specs.Tables.{Table, tables_from}
 use Rattle.catalogue.specs.Starts.{StartsAre}
 use Rattle.view.specs.Ast.{Exp, Block, Parsed, ok, refused, WasRead}
-use Rattle.view.specs.Parse.{many, names_at, parse_block, parse_value, check_of}
+use Rattle.view.specs.Parse.{many, names_at, parse_block, parse_value, parse_view, check_of}
 use Rattle.view.specs.declared.Verdict.TheVariants as structure
 use Rattle.view.specs.declared.Node.{Node}
 use Rattle.view.specs.declared.Node.TheVariants.{Exists, Single}
-use Rattle.view.specs.declared.Node.TheVariants as N
-use Rattle.view.specs.declared.Pick.TheVariants.{Only}
 use Rattle.scope.specs.Scopes.{Open}
 use Rattle.scope.specs.Table.{blank, scopes_of, infos_of}
 use Rattle.scope.specs.Words.{count_in, type_in}
@@ -24,12 +23,10 @@ use Rattle.resolve.specs.Sizes.{capped, pairs_size, sums_of}
 use Rattle.resolve.specs.Typed.{typed_by}
 use Rattle.resolve.specs.declared.Asked.{Asked}
 use Rattle.resolve.specs.declared.Asked.TheVariants.{Rows, Values}
-use Rattle.resolve.specs.declared.Counted.{Counted}
-use Rattle.resolve.specs.declared.Counted.TheVariants as counted
 use Rattle.resolve.specs.declared.Files.{Files}
-use Rattle.resolve.specs.declared.Typed.{Typed}
-use Rattle.resolve.specs.declared.Verdict.{Verdict}
-use Rattle.resolve.specs.declared.Verdict.TheVariants as verdict
+use Rattle.resolve.specs.declared.Known.{Known}
+use Rattle.resolve.specs.declared.Source.{Source}
+use Rattle.resolve.specs.declared.Sums.{Sums}
 
 -- a catalogue's and a view's numbers are right
 pub record Lent (c ss v : List ℕ) (f : Files) : Type 0 where
@@ -69,7 +66,7 @@ pub record Tabled (c : List ℕ) (n : ℕ) (ss : List ℕ) (tables : ℕ) (v : L
   pub found : tables_named (tables_from c n n 0) (names_at v at count) ≡ all (refs_of (tables_named (tables_from c n n 0) (names_at v at count)))
 
 -- the walk's answer there
-abbrev pub answer_at : List ℕ → List ℕ → Files → List Scope → ℕ → ℕ → ℕ → Typed
+abbrev pub answer_at : List ℕ → List ℕ → Files → List Scope → ℕ → ℕ → ℕ → Checked Known
 answer_at c v f t deep d at =
     typed_by f.k (tables_from c f.nc f.nc 0) (scopes_of c f.nc t deep) (infos_of t deep) (parse_value v f.n d at)
 
@@ -78,53 +75,24 @@ unfoldable pub block_node : Asked → ℕ → Node
 block_node (Rows f) a = Exists a f
 block_node (Values g) a = Single a g
 
--- what is asked of the block that a node is, and how many tables it has
-unfoldable pub asked_of : Node → Asked
-asked_of (Exists a f) = Rows f
-asked_of (Single a g) = Values g
-asked_of (N.Const t v) = Values Only
-asked_of (N.Binop op) = Values Only
-asked_of N.Not = Values Only
-asked_of N.If = Values Only
-asked_of (N.Table name) = Values Only
-asked_of (N.Select a b) = Values Only
-asked_of (N.Col name q) = Values Only
-asked_of (N.Classof name q) = Values Only
-asked_of (N.Let name) = Values Only
-asked_of N.Bad = Values Only
-
-unfoldable pub count_of : Node → ℕ
-count_of (Exists a f) = a
-count_of (Single a g) = a
-count_of (N.Const t v) = 0
-count_of (N.Binop op) = 0
-count_of N.Not = 0
-count_of N.If = 0
-count_of (N.Table name) = 0
-count_of (N.Select a b) = 0
-count_of (N.Col name q) = 0
-count_of (N.Classof name q) = 0
-count_of (N.Let name) = 0
-count_of N.Bad = 0
-
 -- THE ANSWER FOR A VIEW
 unfoldable pub resolved_by : List Table → Parsed Block → Resolved
 resolved_by cat (ok b end) = resolve_view cat b
 resolved_by cat (refused number place) = denied number place
 
 -- k is the class of the view's constants
-unfoldable pub verdict_of : ℕ → Resolved → Verdict
-verdict_of k (select s ts) = verdict.Fine (sums_of k s)
-verdict_of k (denied number place) = verdict.Refused number place
+unfoldable pub verdict_of : ℕ → Resolved → Checked Sums
+verdict_of k (select s ts) = fine (sums_of k s)
+verdict_of k (denied number place) = refusal number place
 
 -- the same of several values
 unfoldable pub resolved_all : List Table → List Open → Parsed (List Exp) → Outs
 resolved_all cat Γ (ok es end) = resolve_all cat Γ es
 resolved_all cat Γ (refused number place) = bads number place
 
-unfoldable pub verdict_all : ℕ → List Info → Outs → Counted
-verdict_all k is (goods xs ts) = counted.Records (capped (pairs_size k is xs))
-verdict_all k is (bads number place) = counted.Refused number place
+unfoldable pub verdict_all : ℕ → List Info → Outs → Checked ℕ
+verdict_all k is (goods xs ts) = fine (capped (pairs_size k is xs))
+verdict_all k is (bads number place) = refusal number place
 
 -- a catalogue whose numbers are right, and a view that the structural check took
 pub record Accepted (c ss v : List ℕ) (f : Files) : Type 0 where
@@ -146,3 +114,38 @@ pub record Several (c ss v : List ℕ) (f : Files) (t : List Scope) (count at : 
   pub sized : length t ≡ 16
   pub is_read : WasRead (many (parse_value v f.n 15) count at)
   pub narrow : (j : ℕ) → j < 1 → Narrow (type_in (get_or t j blank))
+
+-- OF WHAT A WALK READS: the catalogue's tables, the open scopes, a value that is read, several, the root's block, the whole view
+abbrev pub tables_in : Source → List Table
+tables_in s = tables_from s.cat.now s.files.nc s.files.nc 0
+
+abbrev pub scopes_in : Source → List Scope → ℕ → List Open
+scopes_in s t deep = scopes_of s.cat.now s.files.nc t deep
+
+abbrev pub value_in : Source → ℕ → ℕ → Parsed Exp
+value_in s d at = parse_value s.view.now s.files.n d at
+
+abbrev pub values_in : Source → List Scope → ℕ → ℕ → Outs
+values_in s t count at = resolved_all (tables_in s) (scopes_in s t 1) (many (value_in s 15) count at)
+
+abbrev pub root_in : Source → ℕ → ℕ → Resolved
+root_in s tables count = resolved_by (tables_in s) (parse_block s.view.now s.files.n 15 (value_in s 15) tables count 1)
+
+abbrev pub view_in : Source → Resolved
+view_in s = resolved_by (tables_in s) (parse_view s.view.now)
+
+-- the walk's answer over it, and what it requires
+abbrev pub answer_in : Source → List Scope → ℕ → ℕ → ℕ → Checked Known
+answer_in s t deep d at = answer_at s.cat.now s.view.now s.files t deep d at
+
+abbrev pub ReadyIn : Source → List Scope → ℕ → ℕ → ℕ → Type 0
+ReadyIn s t deep d at = Ready s.cat.now s.starts.now s.view.now s.files t deep d at
+
+abbrev pub SeveralIn : Source → List Scope → ℕ → ℕ → Type 0
+SeveralIn s t count at = Several s.cat.now s.starts.now s.view.now s.files t count at
+
+abbrev pub RootedIn : Source → ℕ → ℕ → Type 0
+RootedIn s tables count = Rooted s.cat.now s.starts.now s.view.now s.files tables count
+
+abbrev pub AcceptedIn : Source → Type 0
+AcceptedIn s = Accepted s.cat.now s.starts.now s.view.now s.files

@@ -17,8 +17,6 @@ use Rattle.resolve.specs.Expr.{Expr}
 use Rattle.resolve.specs.Expr as expr
 use Rattle.resolve.specs.Resolve.{Out, good, bad, resolve, Outs, goods, bads, Resolved, select, refused as denied}
 use Rattle.resolve.specs.Infos.{class_info}
-use Rattle.resolve.specs.declared.Typed.{Typed}
-use Rattle.resolve.specs.declared.Typed.TheVariants as typed
 
 -- a column: scopes outward, table in block, column; a local: scopes outward, with 2^48 more
 unfoldable pub column_note : ℕ → ℕ → ℕ → ℕ
@@ -86,21 +84,12 @@ unfoldable pub EndedView : ℕ → Resolved → List ℕ → List ℕ → Type 0
 EndedView k (select s ts) o o' = o' ≡ put o 0 (ends_of k (Fixed 0 ∷ []) (1 + length s.from) (s.test ∷ s.values))
 EndedView k (denied number place) o o' = length o' ≡ length o
 
--- what notes o₁ in which a LET's value has been noted, read as P from the record after `at` on, are after the walk over its body: whatever they were before the value, they are noted as the LET's, read as Q
-pub record BodyNoted (cat : List Table) (Γ : List Open) (P Q : Parsed Exp) (at : ℕ) (o₁ o₂ : List ℕ) : Type 0 where
-  pub noted : (o : List ℕ) → NotedBy cat Γ P (at + 1) o o₁ → NotedBy cat Γ Q at o o₂
-
 -- THE STEPS of the walk. The note of what a name finds
 unfoldable pub found_note : Found → ℕ
 found_note (F.Column a b c t i r) = column_note a b c
 found_note (F.Local a t i) = local_note a
 found_note F.None = 0
 found_note F.Ambiguous = 0
-
--- BINOP's, by the walk's answer
-unfoldable pub digits_note : Typed → ℕ
-digits_note (typed.Is x) = digits_of x.ty
-digits_note (typed.Refused number place) = 0
 
 -- the numbers of the tables that so many TABLE records name, from record `at` on, over n records of a catalogue
 unfoldable pub numbers_at : List ℕ → ℕ → List ℕ → ℕ → ℕ → List ℕ
@@ -111,8 +100,3 @@ unfoldable pub marked_at : List ℕ → ℕ → Ty → Ty → List ℕ
 marked_at o at s t =
     cond (same_type s t) o
     (set o at (get_or o at 0 % 72057594037927936 + 72057594037927936 * ((16 * digits_of t + scale_of t) % 256)))
-
--- notes in which both limbs of an IF are brought to its type, by the walk's answer: of type s from record i on, of type t from record j on
-unfoldable pub limbs_noted : List ℕ → ℕ → Ty → ℕ → Ty → Typed → List ℕ
-limbs_noted o i s j t (typed.Is x) = marked_at (marked_at o i s x.ty) j t x.ty
-limbs_noted o i s j t (typed.Refused number place) = o

@@ -1,6 +1,7 @@
 -- What is known of a value from what is known of its parts, one definition for each kind of node. Wherever sizes are added they stop just above 8,190.
 -- Assumes nothing.
 use Rattle.std.specs.Prelude.{ℕ, ◌+◌, cond, List, [], ◌∷◌, map, length, eqb}
+use Rattle.word.specs.Refusal.{Checked, fine, refusal}
 use Rattle.class.specs.Info.{bound_of}
 use Rattle.class.specs.declared.Info.{Info}
 use Rattle.class.specs.declared.Info.TheVariants.{Fixed, Bound}
@@ -17,8 +18,6 @@ use Rattle.resolve.specs.Totals.{fold_type, pick_type}
 use Rattle.resolve.specs.Sizes.{capped, weighed, join_w, choice_w, let_w, block_w}
 use Rattle.resolve.specs.declared.Weighed.{Weighed}
 use Rattle.resolve.specs.declared.Known.{Known}
-use Rattle.resolve.specs.declared.Typed.{Typed}
-use Rattle.resolve.specs.declared.Typed.TheVariants as typed
 
 -- what is known of a value's class
 unfoldable pub class_of : Known → Weighed
@@ -71,44 +70,39 @@ unfoldable pub refs_to : List Table → List TabRef
 refs_to us = map (λ u. record { num = 0; table = u }) us
 
 -- a type rule, and a condition: 9 at the record where it is broken
-unfoldable pub ruled_t : ℕ → Res Ty → (Ty → Known) → Typed
-ruled_t at stuck f = typed.Refused 9 at
-ruled_t at (done t) f = typed.Is (f t)
+unfoldable pub ruled_t : ℕ → Res Ty → (Ty → Known) → Checked Known
+ruled_t at stuck f = refusal 9 at
+ruled_t at (done t) f = fine (f t)
 
-unfoldable pub bool_t : ℕ → Ty → Typed → Typed
-bool_t at t r = cond (eqb (kind_of t) 1) r (typed.Refused 9 at)
+unfoldable pub bool_t : ℕ → Ty → Checked Known → Checked Known
+bool_t at t r = cond (eqb (kind_of t) 1) r (refusal 9 at)
 
 -- THE ANSWERS at a record, by its kind
-unfoldable pub two_t : ℕ → ℕ → Known → Known → Typed
+unfoldable pub two_t : ℕ → ℕ → Known → Known → Checked Known
 two_t at op x y = ruled_t at (binop_type op x.ty y.ty) (λ t. two_k t x y)
 
-unfoldable pub not_t : ℕ → Known → Typed
-not_t at x = bool_t at x.ty (typed.Is (not_k x))
+unfoldable pub not_t : ℕ → Known → Checked Known
+not_t at x = bool_t at x.ty (fine (not_k x))
 
-unfoldable pub if_t : ℕ → Known → Known → Known → Typed
+unfoldable pub if_t : ℕ → Known → Known → Known → Checked Known
 if_t at c x y = bool_t at c.ty (ruled_t at (limb_type x.ty y.ty) (λ t. if_k t c (brought_k t x) (brought_k t y)))
 
--- LET, by what is known of its value and the answer for its body
-unfoldable pub let_t : Known → Typed → Typed
-let_t x (typed.Is y) = typed.Is (let_k x y)
-let_t x (typed.Refused number place) = typed.Refused number place
+unfoldable pub exists_t : ℕ → Fold → List TabRef → Known → Checked Known
+exists_t at f ts x = bool_t at x.ty (fine (exists_k f ts x))
 
-unfoldable pub exists_t : ℕ → Fold → List TabRef → Known → Typed
-exists_t at f ts x = bool_t at x.ty (typed.Is (exists_k f ts x))
-
-unfoldable pub single_t : ℕ → Pick → List TabRef → Known → Known → Typed
+unfoldable pub single_t : ℕ → Pick → List TabRef → Known → Known → Checked Known
 single_t at g ts x y = bool_t at x.ty (ruled_t at (pick_type g y.ty) (λ t. single_k t ts x y))
 
 -- COL: a column or a local; none is 7, more is 8
-unfoldable pub col_t : ℕ → Found → Typed
-col_t at (F.Column a b c t i r) = typed.Is (leaf_k t i (at + 1))
-col_t at (F.Local a t i) = typed.Is (leaf_k t i (at + 1))
-col_t at F.None = typed.Refused 7 at
-col_t at F.Ambiguous = typed.Refused 8 at
+unfoldable pub col_t : ℕ → Found → Checked Known
+col_t at (F.Column a b c t i r) = fine (leaf_k t i (at + 1))
+col_t at (F.Local a t i) = fine (leaf_k t i (at + 1))
+col_t at F.None = refusal 7 at
+col_t at F.Ambiguous = refusal 8 at
 
 -- CLASSOF: a local counts as no column
-unfoldable pub class_t : ℕ → Found → Typed
-class_t at (F.Column a b c t i r) = typed.Is (leaf_k T.Class r (at + 1))
-class_t at (F.Local a t i) = typed.Refused 7 at
-class_t at F.None = typed.Refused 7 at
-class_t at F.Ambiguous = typed.Refused 8 at
+unfoldable pub class_t : ℕ → Found → Checked Known
+class_t at (F.Column a b c t i r) = fine (leaf_k T.Class r (at + 1))
+class_t at (F.Local a t i) = refusal 7 at
+class_t at F.None = refusal 7 at
+class_t at F.Ambiguous = refusal 8 at

@@ -1,6 +1,7 @@
 // What is known of a block from what is known of its where and its value, over the entry of the block's scope.
 // The tables' row classes and their own classes are looked up in the catalogue.
 ghost use Rattle.std.specs.Prelude.{◌≡◌, ◌+◌, ◌*◌, ◌≤◌, [], ◌∷◌, length};
+ghost use Rattle.word.specs.Refusal.{said};
 ghost use Rattle.class.specs.Info.{bound_of, join_i, choice_i};
 ghost use Rattle.class.specs.declared.Info.TheVariants.{Fixed, Bound};
 ghost use Rattle.scope.specs.Table.{open_of};
@@ -8,34 +9,12 @@ ghost use Rattle.scope.specs.Entry.{tables_in, Among};
 ghost use Rattle.resolve.specs.Infos.{block_i};
 ghost use Rattle.resolve.specs.Sizes.{weighed, joins_w, join_all_w, choice_w, rows_w};
 ghost use Rattle.resolve.specs.Steps.{class_of, stopped, agg_w, refs_to, exists_k, single_k, exists_t, single_t};
-ghost use Rattle.resolve.specs.Claims.{Opening, asked_of, count_of};
+ghost use Rattle.resolve.specs.Claims.{Opening};
 
-use crate::steps::plus;
+use crate::steps::{plus, wrong_type};
 use crate::totals::{fold_type, pick_type};
-use crate::{Asked, Known, Typed, Weighed};
-
-// What is asked of the block that a node is; of a node that is none, a value.
-#[tactic(auto, unfolding(crate::specs::Claims::asked_of))]
-pub fn asked_of(node: view::Node) -> Asked
-    ensures { result ≡ asked_of node }
-{
-    match node {
-        view::Node::Exists(_, fold) => Asked::Rows(fold),
-        view::Node::Single(_, pick) => Asked::Values(pick),
-        _ => Asked::Values(view::Pick::Only),
-    }
-}
-
-// How many tables the block has that a node is; a node that is none, 0.
-#[tactic(auto, unfolding(crate::specs::Claims::count_of))]
-pub fn count_of(node: view::Node) -> u16
-    ensures { result ≡ count_of node }
-{
-    match node {
-        view::Node::Exists(count, _) | view::Node::Single(count, _) => count,
-        _ => 0,
-    }
-}
+use crate::{Known, Weighed};
+use word::Refusal;
 
 // The row classes of a block's tables, joined in order.
 #[tactic(auto, using(crate::proofs::Tables::rowed))]
@@ -56,7 +35,7 @@ fn rows(s: scope::Scope, cat: &[u8], n: usize) -> Weighed
 fn agg(m: u16, k: u16, w: Weighed) -> Weighed
     ensures { result ≡ stopped (agg_w m k w) }
 {
-    let bound = class::Info::Bound(class::bound_of(w.info));
+    let bound = class::Info::Bound(w.info.bound());
     Weighed::new(bound, plus(1, plus(m, w.size))).join(Weighed::new(class::Info::Fixed(k), 1))
 }
 
@@ -91,21 +70,20 @@ fn single(s: scope::Scope, cat: &[u8], n: usize, t: cell::Type, x: Known, y: Kno
     Known::new(t, y.next, plus(1, plus(m, plus(x.values, y.values))), w)
 }
 
-// EXISTS and COUNT.
-#[tactic(auto, using(crate::proofs::Tables::blocked))]
-pub fn with_exists(s: scope::Scope, cat: &[u8], n: usize, at: u16, f: view::Fold, x: Known) -> Typed
+/// EXISTS and COUNT at a record, of whose where x is known; 9 where that isn't boolean.
+#[tactic(auto, using(cell::proofs::Equal::equal_types), unfolding(crate::specs::Steps::exists_t, crate::specs::Steps::bool_t))]
+pub fn with_exists(s: scope::Scope, cat: &[u8], n: usize, at: u16, f: view::Fold, x: Known) -> Result<Known, Refusal>
     requires { Opening cat.now n s }
-    ensures { result ≡ exists_t at f (refs_to (tables_in (open_of cat.now n s))) x }
+    ensures { said result ≡ exists_t at f (refs_to (tables_in (open_of cat.now n s))) x }
 {
-    if cell::kind_of(x.ty) == 1 {
-        Typed::Is(exists(s, cat, n, f, x))
-    } else {
-        Typed::Refused(9, at)
+    if x.ty != cell::Type::Boolean {
+        return Err(wrong_type(at));
     }
+    Ok(exists(s, cat, n, f, x))
 }
 
-// VALUE, MAX and MIN.
-#[tactic(auto, using(crate::proofs::Tables::blocked))]
+/// VALUE, MAX and MIN at a record, of whose where x and of whose value y is known; 9 where the where isn't boolean or the value has no order.
+#[tactic(auto, using(cell::proofs::Equal::equal_types, cell::proofs::Options::options), unfolding(crate::specs::Steps::single_t, crate::specs::Steps::bool_t, crate::specs::Steps::ruled_t))]
 pub fn with_single(
     s: scope::Scope,
     cat: &[u8],
@@ -114,18 +92,17 @@ pub fn with_single(
     g: view::Pick,
     x: Known,
     y: Known,
-) -> Typed
+) -> Result<Known, Refusal>
     requires { Opening cat.now n s }
-    ensures { result ≡ single_t at g (refs_to (tables_in (open_of cat.now n s))) x y }
+    ensures { said result ≡ single_t at g (refs_to (tables_in (open_of cat.now n s))) x y }
 {
-    if cell::kind_of(x.ty) == 1 {
-        match pick_type(g, y.ty) {
-            cell::Judged::Is(u) => Typed::Is(single(s, cat, n, u, x, y)),
-            cell::Judged::Broken => Typed::Refused(9, at),
-        }
-    } else {
-        Typed::Refused(9, at)
+    if x.ty != cell::Type::Boolean {
+        return Err(wrong_type(at));
     }
+    let Some(ty) = pick_type(g, y.ty) else {
+        return Err(wrong_type(at));
+    };
+    Ok(single(s, cat, n, ty, x, y))
 }
 
 // What is known of a block's class: AGG is a tree even over a fixed class; k is the tables' class.
@@ -133,8 +110,8 @@ pub fn with_single(
 fn agg_info(row: class::Info, k: u16) -> class::Info
     ensures { result ≡ join_i (Bound (bound_of row)) (Fixed k) }
 {
-    let bound = class::Info::Bound(class::bound_of(row));
-    class::joined(bound, class::Info::Fixed(k))
+    let bound = class::Info::Bound(row.bound());
+    bound.join(class::Info::Fixed(k))
 }
 
 // The same of EXISTS and COUNT, from what is known of the where's class.
@@ -143,8 +120,7 @@ pub fn exists_info(s: scope::Scope, cat: &[u8], n: usize, x: class::Info) -> cla
     requires { Opening cat.now n s }
     ensures { result ≡ block_i (refs_to (tables_in (open_of cat.now n s))) (x ∷ []) }
 {
-    let row = class::joined(rows(s, cat, n).info, x);
-    agg_info(row, scope::block_class(s, cat, n))
+    agg_info(rows(s, cat, n).info.join(x), scope::block_class(s, cat, n))
 }
 
 // The same of VALUE, MAX and MIN, from what is known of the where's class and of the value's.
@@ -159,7 +135,6 @@ pub fn single_info(
     requires { Opening cat.now n s }
     ensures { result ≡ block_i (refs_to (tables_in (open_of cat.now n s))) (x ∷ choice_i y (Fixed 0) ∷ []) }
 {
-    let choice = class::chosen(y, class::Info::Fixed(0));
-    let part = class::joined(rows(s, cat, n).info, x);
-    agg_info(class::joined(part, choice), scope::block_class(s, cat, n))
+    let choice = y.choose(class::Info::Fixed(0));
+    agg_info(rows(s, cat, n).info.join(x).join(choice), scope::block_class(s, cat, n))
 }

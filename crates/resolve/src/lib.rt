@@ -8,23 +8,20 @@ mod select;
 mod steps;
 mod totals;
 
-ghost use Rattle.std.specs.Prelude.{◌≡◌, ◌+◌, ◌-◌};
-ghost use Rattle.catalogue.specs.Tables.{tables_from};
+ghost use Rattle.std.specs.Prelude.{◌≡◌, ◌+◌, ◌-◌, set};
+ghost use Rattle.word.specs.Refusal.{said};
 ghost use Rattle.view.specs.Record.{node_at};
-ghost use Rattle.view.specs.Parse.{parse_value};
-ghost use Rattle.view.specs.declared.Node.TheVariants.{Let};
 ghost use Rattle.scope.specs.Held.{entries_in};
-ghost use Rattle.scope.specs.Table.{scopes_of};
-ghost use Rattle.resolve.specs.Notes.{NotedBy, BodyNoted};
-ghost use Rattle.resolve.specs.Claims.{Ready, answer_at, block_node};
-ghost use Rattle.resolve.specs.declared.Typed.TheVariants.{Is};
+ghost use Rattle.resolve.specs.Notes.{NotedBy};
+ghost use Rattle.resolve.specs.Claims.{ReadyIn, tables_in, scopes_in, value_in, answer_in, block_node};
 
 pub use blocks::{exists_info, single_info};
 pub use select::whole;
 pub use totals::fold_type;
+use word::{Reason, Refusal};
 
-// What a walk is over: the catalogue's records and tables, the view's records, and the class of the view's constants.
-#[derive(Clone, Copy)]
+/// The numbers of what a walk is over: the catalogue's records and tables, the view's records, and the class of the view's constants.
+#[derive(Clone, Copy, PartialEq, Eq, Debug)]
 pub struct Files {
     pub nc: usize,
     pub tables: usize,
@@ -32,9 +29,18 @@ pub struct Files {
     pub k: u16,
 }
 
-// A value's type, what is known of its class, the next record, and how many records its data and its class take.
-// The numbers fit 16 bits: a view has at most 1,024 records, and sizes stop just above 8,190.
+/// What a walk reads: a catalogue, the record of each of its tables, a view, and their numbers.
 #[derive(Clone, Copy)]
+pub struct Source<'a> {
+    pub cat: &'a [u8],
+    pub starts: &'a [u16; 32],
+    pub view: &'a [u8],
+    pub files: Files,
+}
+
+/// A value's type, what is known of its class, the next record, and how many records its data and its class take.
+/// The numbers fit 16 bits: a view has at most 1,024 records, and sizes stop just above 8,190.
+#[derive(Clone, Copy, PartialEq, Eq, Debug)]
 pub struct Known {
     pub ty: cell::Type,
     pub info: class::Info,
@@ -43,35 +49,22 @@ pub struct Known {
     pub classes: u16,
 }
 
-// What is asked of a block: something of its kept rows (EXISTS, COUNT), or one of their values (VALUE, MAX, MIN).
+/// What is asked of a block: something of its kept rows (EXISTS, COUNT), or one of their values (VALUE, MAX, MIN).
 #[derive(Clone, Copy)]
 pub enum Asked {
     Rows(view::Fold),
     Values(view::Pick),
 }
 
-// What is known of a class, and how many records its tree takes.
-#[derive(Clone, Copy)]
+/// What is known of a class, and how many records its tree takes.
+#[derive(Clone, Copy, PartialEq, Eq, Debug)]
 pub struct Weighed {
     pub info: class::Info,
     pub size: u16,
 }
 
-#[derive(Clone, Copy)]
-pub enum Typed {
-    Is(Known),
-    Refused(u16, u16),
-}
-
-// The records that several values take, each with its data and its class; or a refusal: number and place.
-#[derive(Drop)]
-pub enum Counted {
-    Records(usize),
-    Refused(u16, usize),
-}
-
-// Of a view: what is known of its where's class, the records of the where's data and of its class, and those of all its values' pairs of data and class.
-#[derive(Drop)]
+/// Of a view: what is known of its where's class, the records of the where's data and of its class, and those of all its values' pairs of data and class.
+#[derive(Clone, Copy, PartialEq, Eq, Debug)]
 pub struct Sums {
     pub info: class::Info,
     pub values: usize,
@@ -79,200 +72,133 @@ pub struct Sums {
     pub pairs: usize,
 }
 
-// Names and types are right, and so many records; or a refusal: number and place.
-#[derive(Drop)]
-pub enum Verdict {
-    Fine(Sums),
-    Refused(u16, usize),
-}
-
-// A value: names and types, with depth levels left, in the scopes that are open, whose entries `held` has as words; and a note for each of its records.
-#[cycle(block_bound_value)]
+/// A value: names and types, with depth levels left, in the scopes that are open, whose entries `held` has as words; and a note for each of its records.
+#[cycle(block_value_within)]
 pub fn value(
-    cat: &[u8],
-    starts: &[u16; 32],
-    view: &[u8],
-    f: Files,
+    source: &Source,
     at: usize,
     depth: usize,
     held: &mut [u64; 16],
     deep: usize,
     notes: &mut [u64; 1024],
-) -> Typed
-    requires { Ready cat.now starts.now view.now f (entries_in held.old) deep depth at }
-    ensures value { result ≡ answer_at cat.now view.now f (entries_in held.old) deep depth at }
-    ensures noted_by { NotedBy (tables_from cat.now f.nc f.nc 0) (scopes_of cat.now f.nc (entries_in held.old) deep) (parse_value view.now f.n depth at) at notes.old notes.new }
+) -> Result<Known, Refusal>
+    requires { ReadyIn source.now (entries_in held.old) deep depth at }
+    ensures value { said result ≡ answer_in source.now (entries_in held.old) deep depth at }
+    ensures noted_by { NotedBy (tables_in source.now) (scopes_in source.now (entries_in held.old) deep) (value_in source.now depth at) at notes.old notes.new }
     ensures held_unchanged { held.new ≡ held.old }
 {
     let next = at + 1;
     let down = depth - 1;
-    let mut r: Typed;
-    let node = view::sound_at(view, at);
-    match node {
+    match view::sound_at(source.view, at) {
         view::Node::Const(ty, _) => {
             notes::note(notes, at, 0);
-            Typed::Is(Known::leaf(ty, class::Info::Fixed(f.k), next as u16))
+            let info = class::Info::Fixed(source.files.k);
+            Ok(Known::leaf(ty, info, next as u16))
         }
         view::Node::Binop(op) => {
-            r = value(cat, starts, view, f, next, down, held, deep, notes);
-            match r {
-                Typed::Refused(i, p) => Typed::Refused(i, p),
-                Typed::Is(x) => {
-                    r = value(
-                        cat,
-                        starts,
-                        view,
-                        f,
-                        x.next as usize,
-                        down,
-                        held,
-                        deep,
-                        notes,
-                    );
-                    match r {
-                        Typed::Refused(i, p) => Typed::Refused(i, p),
-                        Typed::Is(y) => {
-                            r = x.binop(at as u16, op, y);
-                            let w = notes::digits_note(r);
-                            notes::note(notes, at, w);
-                            r
-                        }
-                    }
-                }
-            }
+            let left = value(source, next, down, held, deep, notes)?;
+            let right = value(source, usize::from(left.next), down, held, deep, notes)?;
+            let known = left.binop(at as u16, op, right)?;
+            notes::note(notes, at, u64::from(known.ty.digits()));
+            Ok(known)
         }
         view::Node::Not => {
             notes::note(notes, at, 0);
-            r = value(cat, starts, view, f, next, down, held, deep, notes);
-            match r {
-                Typed::Refused(i, p) => Typed::Refused(i, p),
-                Typed::Is(x) => x.not(at as u16),
-            }
+            let operand = value(source, next, down, held, deep, notes)?;
+            operand.not(at as u16)
         }
         view::Node::If => {
             notes::note(notes, at, 0);
-            r = value(cat, starts, view, f, next, down, held, deep, notes);
-            match r {
-                Typed::Refused(i, p) => Typed::Refused(i, p),
-                Typed::Is(x) => {
-                    r = value(
-                        cat,
-                        starts,
-                        view,
-                        f,
-                        x.next as usize,
-                        down,
-                        held,
-                        deep,
-                        notes,
-                    );
-                    match r {
-                        Typed::Refused(i, p) => Typed::Refused(i, p),
-                        Typed::Is(y) => {
-                            r = value(
-                                cat,
-                                starts,
-                                view,
-                                f,
-                                y.next as usize,
-                                down,
-                                held,
-                                deep,
-                                notes,
-                            );
-                            match r {
-                                Typed::Refused(i, p) => Typed::Refused(i, p),
-                                Typed::Is(z) => {
-                                    r = x.branch(at as u16, y, z);
-                                    let yes = y.ty;
-                                    let no = z.ty;
-                                    let i = x.next as usize;
-                                    let j = y.next as usize;
-                                    notes::limbs(notes, i, yes, j, no, r);
-                                    r
-                                }
-                            }
-                        }
-                    }
-                }
-            }
+            let test = value(source, next, down, held, deep, notes)?;
+            let yes = value(source, usize::from(test.next), down, held, deep, notes)?;
+            let no = value(source, usize::from(yes.next), down, held, deep, notes)?;
+            let known = test.branch(at as u16, yes, no)?;
+            notes::mark(notes, usize::from(test.next), yes.ty, known.ty);
+            notes::mark(notes, usize::from(yes.next), no.ty, known.ty);
+            Ok(known)
         }
-        view::Node::Col(name, q) => {
-            let h = scope::find_in(held, cat, f.nc, deep, name, q);
-            let w = notes::found_note(h);
-            notes::note(notes, at, w);
-            steps::of_column(at as u16, h)
+        view::Node::Col(name, table) => {
+            let found = scope::find_in(held, source.cat, source.files.nc, deep, name, table);
+            notes::note(notes, at, notes::found_note(found));
+            steps::column(at as u16, found)
         }
-        view::Node::Classof(name, q) => {
-            let h = scope::find_in(held, cat, f.nc, deep, name, q);
-            let w = notes::found_note(h);
-            notes::note(notes, at, w);
-            steps::of_class(at as u16, h)
+        view::Node::Classof(name, table) => {
+            let found = scope::find_in(held, source.cat, source.files.nc, deep, name, table);
+            notes::note(notes, at, notes::found_note(found));
+            steps::class_of(at as u16, found)
         }
         view::Node::Let(name) => {
-            r = value(cat, starts, view, f, next, down, held, deep, notes);
-            match r {
-                Typed::Refused(i, p) => Typed::Refused(i, p),
-                Typed::Is(x) => {
-                    r = bound(cat, starts, view, f, at, depth, held, deep, name, x, notes);
-                    r
-                }
-            }
+            let bound = value(source, next, down, held, deep, notes)?;
+            notes::note(notes, at, 0);
+            let own = scope::local_scope(name, bound.ty, bound.info);
+            let start = usize::from(bound.next);
+            let body = within(source, start, down, held, deep, own, notes)?;
+            Ok(bound.bind(body))
         }
-        view::Node::Table(_) => Typed::Refused(4, at as u16),
-        view::Node::Select(_, _) => Typed::Refused(4, at as u16),
-        view::Node::Bad => Typed::Refused(3, at as u16),
-        view::Node::Exists(_, _) | view::Node::Single(_, _) => {
-            let asked = blocks::asked_of(node);
-            let count = blocks::count_of(node) as usize;
-            r = block(
-                cat, starts, view, f, at, depth, held, deep, count, asked, notes,
-            );
-            r
+        view::Node::Exists(count, fold) => {
+            let count = usize::from(count);
+            block(
+                source,
+                at,
+                depth,
+                held,
+                deep,
+                count,
+                Asked::Rows(fold),
+                notes,
+            )
         }
+        view::Node::Single(count, pick) => {
+            let count = usize::from(count);
+            block(
+                source,
+                at,
+                depth,
+                held,
+                deep,
+                count,
+                Asked::Values(pick),
+                notes,
+            )
+        }
+        view::Node::Table(_) | view::Node::Select(_, _) => Err(Refusal {
+            reason: Reason::WrongPlace,
+            place: at as u16,
+        }),
+        view::Node::Bad => Err(Refusal {
+            reason: Reason::FieldOutOfRule,
+            place: at as u16,
+        }),
     }
 }
 
-// The body of the LET at a record, of whose value x is known and noted: a scope opens for it, and is closed again.
-#[cycle(block_bound_value)]
-fn bound(
-    cat: &[u8],
-    starts: &[u16; 32],
-    view: &[u8],
-    f: Files,
+/// A value under one more scope, which is closed again whatever the answer.
+#[cycle(block_value_within)]
+fn within(
+    source: &Source,
     at: usize,
     depth: usize,
     held: &mut [u64; 16],
     deep: usize,
-    name: u16,
-    x: Known,
+    own: scope::Scope,
     notes: &mut [u64; 1024],
-) -> Typed
-    requires { Ready cat.now starts.now view.now f (entries_in held.old) deep depth at × (node_at view.now at ≡ Let name) × (answer_at cat.now view.now f (entries_in held.old) deep (depth - 1) (at + 1) ≡ Is x) }
-    ensures value { result ≡ answer_at cat.now view.now f (entries_in held.old) deep depth at }
-    ensures body_noted { BodyNoted (tables_from cat.now f.nc f.nc 0) (scopes_of cat.now f.nc (entries_in held.old) deep) (parse_value view.now f.n (depth - 1) (at + 1)) (parse_value view.now f.n depth at) at notes.old notes.new }
+) -> Result<Known, Refusal>
+    requires { ReadyIn source.now (set (entries_in held.old) deep own) (deep + 1) depth at }
+    ensures value { said result ≡ answer_in source.now (set (entries_in held.old) deep own) (deep + 1) depth at }
+    ensures noted_by { NotedBy (tables_in source.now) (scopes_in source.now (set (entries_in held.old) deep own) (deep + 1)) (value_in source.now depth at) at notes.old notes.new }
     ensures held_unchanged { held.new ≡ held.old }
 {
-    let down = depth - 1;
-    notes::note(notes, at, 0);
-    let ty = x.ty;
-    let info = x.info;
-    let own = scope::local_scope(name, ty, info);
-    let old = held[deep];
+    let outer = held[deep];
     scope::push_in(held, deep, own);
-    let body = x.next as usize;
-    let r = value(cat, starts, view, f, body, down, held, deep + 1, notes);
-    held[deep] = old;
-    steps::with_body(x, r)
+    let answer = value(source, at, depth, held, deep + 1, notes);
+    held[deep] = outer;
+    answer
 }
 
-// A block of whose rows or values something is asked: a scope opens over its tables, for its where and its value, and is closed again.
-#[cycle(block_bound_value)]
+/// A block of whose rows or values something is asked: its tables are one scope, under which its where and its value stand.
+#[cycle(block_value_within)]
 fn block(
-    cat: &[u8],
-    starts: &[u16; 32],
-    view: &[u8],
-    f: Files,
+    source: &Source,
     at: usize,
     depth: usize,
     held: &mut [u64; 16],
@@ -280,53 +206,41 @@ fn block(
     count: usize,
     asked: Asked,
     notes: &mut [u64; 1024],
-) -> Typed
-    requires { Ready cat.now starts.now view.now f (entries_in held.old) deep depth at × (node_at view.now at ≡ block_node asked count) }
-    ensures value { result ≡ answer_at cat.now view.now f (entries_in held.old) deep depth at }
-    ensures noted_by { NotedBy (tables_from cat.now f.nc f.nc 0) (scopes_of cat.now f.nc (entries_in held.old) deep) (parse_value view.now f.n depth at) at notes.old notes.new }
+) -> Result<Known, Refusal>
+    requires { ReadyIn source.now (entries_in held.old) deep depth at × (node_at source.now.view.now at ≡ block_node asked count) }
+    ensures value { said result ≡ answer_in source.now (entries_in held.old) deep depth at }
+    ensures noted_by { NotedBy (tables_in source.now) (scopes_in source.now (entries_in held.old) deep) (value_in source.now depth at) at notes.old notes.new }
     ensures held_unchanged { held.new ≡ held.old }
 {
-    let next = at + 1;
+    let cat = source.cat;
+    let nc = source.files.nc;
     let down = depth - 1;
-    let o = scope::open_block(cat, f.nc, starts, f.tables, view, next, count);
-    if !o.fine {
-        return Typed::Refused(6, o.place as u16);
-    }
-    notes::note(notes, at, 0);
-    notes::tables(cat, f.nc, starts, f.tables, view, next, count, notes);
-    let s = o.scope;
-    let old = held[deep];
-    scope::push_in(held, deep, s);
-    let mut r = value(
+    let next = at + 1;
+    let opened = scope::open_block(
         cat,
-        starts,
-        view,
-        f,
-        next + count,
-        down,
-        held,
-        deep + 1,
-        notes,
+        nc,
+        source.starts,
+        source.files.tables,
+        source.view,
+        next,
+        count,
     );
-    match r {
-        Typed::Refused(i, p) => {
-            held[deep] = old;
-            Typed::Refused(i, p)
+    if !opened.fine {
+        return Err(Refusal {
+            reason: Reason::NoTable,
+            place: opened.place as u16,
+        });
+    }
+    let own = opened.scope;
+    notes::note(notes, at, 0);
+    notes::tables(source, next, count, notes);
+    let test = within(source, next + count, down, held, deep, own, notes)?;
+    match asked {
+        Asked::Rows(fold) => blocks::with_exists(own, cat, nc, at as u16, fold, test),
+        Asked::Values(pick) => {
+            let then = usize::from(test.next);
+            let each = within(source, then, down, held, deep, own, notes)?;
+            blocks::with_single(own, cat, nc, at as u16, pick, test, each)
         }
-        Typed::Is(x) => match asked {
-            Asked::Rows(q) => {
-                held[deep] = old;
-                blocks::with_exists(s, cat, f.nc, at as u16, q, x)
-            }
-            Asked::Values(g) => {
-                let then = x.next as usize;
-                r = value(cat, starts, view, f, then, down, held, deep + 1, notes);
-                held[deep] = old;
-                match r {
-                    Typed::Refused(i, p) => Typed::Refused(i, p),
-                    Typed::Is(y) => blocks::with_single(s, cat, f.nc, at as u16, g, x, y),
-                }
-            }
-        },
     }
 }

@@ -1,131 +1,111 @@
 // SELECT: the root's block, all its values, and the answer for a whole view.
 // The walk over a value is `value`.
-ghost use Rattle.std.specs.Prelude.{◌≡◌, ℕ, ◌+◌};
-ghost use Rattle.catalogue.specs.Tables.{tables_from};
-ghost use Rattle.view.specs.Parse.{many, parse_block, parse_value, parse_view};
+ghost use Rattle.std.specs.Prelude.{◌≡◌};
+ghost use Rattle.word.specs.Refusal.{said};
 ghost use Rattle.scope.specs.Held.{entries_in};
-ghost use Rattle.scope.specs.Table.{scopes_of, infos_of};
+ghost use Rattle.scope.specs.Table.{infos_of};
 ghost use Rattle.resolve.specs.Notes.{NotedAll, NotedView, EndedAll, EndedView};
-ghost use Rattle.resolve.specs.Claims.{Accepted, Rooted, Several, resolved_by, resolved_all, verdict_of, verdict_all};
+ghost use Rattle.resolve.specs.Claims.{AcceptedIn, RootedIn, SeveralIn, values_in, root_in, view_in, verdict_of, verdict_all};
 
 use crate::notes::{end_note, leave};
-use crate::steps::plus;
-use crate::{Counted, Files, Sums, Typed, Verdict, value};
+use crate::steps::{plus, wrong_type};
+use crate::{Source, Sums, value};
+use word::{Reason, Refusal};
 
-// So many values from record `at` on, under the root's scope alone: their notes, and from place 1 on their ends.
+/// So many values from record `at` on, under the root's scope alone: the records of their data and classes; their notes, and from place 1 on their ends.
 fn values(
-    cat: &[u8],
-    starts: &[u16; 32],
-    view: &[u8],
-    f: Files,
+    source: &Source,
     at: usize,
     held: &mut [u64; 16],
     count: usize,
     notes: &mut [u64; 1024],
     ends: &mut [u64],
-) -> Counted
-    requires { Several cat.now starts.now view.now f (entries_in held.old) count at }
-    ensures value { result ≡ verdict_all f.k (infos_of (entries_in held.old) 1) (resolved_all (tables_from cat.now f.nc f.nc 0) (scopes_of cat.now f.nc (entries_in held.old) 1) (many (parse_value view.now f.n 15) count at)) }
-    ensures noted_all { NotedAll (resolved_all (tables_from cat.now f.nc f.nc 0) (scopes_of cat.now f.nc (entries_in held.old) 1) (many (parse_value view.now f.n 15) count at)) at notes.old notes.new }
-    ensures ended_all { EndedAll f.k (infos_of (entries_in held.old) 1) (resolved_all (tables_from cat.now f.nc f.nc 0) (scopes_of cat.now f.nc (entries_in held.old) 1) (many (parse_value view.now f.n 15) count at)) at 1 ends.old ends.new }
+) -> Result<usize, Refusal>
+    requires { SeveralIn source.now (entries_in held.old) count at }
+    ensures value { said result ≡ verdict_all source.now.files.k (infos_of (entries_in held.old) 1) (values_in source.now (entries_in held.old) count at) }
+    ensures noted_all { NotedAll (values_in source.now (entries_in held.old) count at) at notes.old notes.new }
+    ensures ended_all { EndedAll source.now.files.k (infos_of (entries_in held.old) 1) (values_in source.now (entries_in held.old) count at) at 1 ends.old ends.new }
     ensures held_unchanged { held.new ≡ held.old }
 {
-    let mut m = at;
-    let mut n: u16 = 0;
-    let mut j: usize = 0;
-    while j < count {
-        match value(cat, starts, view, f, m, 15, held, 1, notes) {
-            Typed::Refused(i, p) => {
-                return Counted::Refused(i, p as usize);
-            }
-            Typed::Is(x) => {
-                let w = end_note(x);
-                leave(ends, j + 1, w);
-                n = plus(n, plus(x.values, x.classes));
-                m = x.next as usize;
-            }
-        }
-        j += 1;
+    let mut next = at;
+    let mut pairs: u16 = 0;
+    for j in 0..count {
+        let known = value(source, next, 15, held, 1, notes)?;
+        leave(ends, j + 1, end_note(known));
+        pairs = plus(pairs, plus(known.values, known.classes));
+        next = usize::from(known.next);
     }
-    Counted::Records(n as usize)
+    Ok(usize::from(pairs))
 }
 
-// The root's block: its tables, its where, its values; last, that the where is boolean.
+/// The root's block: its tables, its where, its values; last, that the where is boolean.
 fn root(
-    cat: &[u8],
-    starts: &[u16; 32],
-    view: &[u8],
-    f: Files,
+    source: &Source,
     tables: usize,
     count: usize,
     notes: &mut [u64; 1024],
     ends: &mut [u64],
-) -> Verdict
-    requires { Rooted cat.now starts.now view.now f tables count }
-    ensures value { result ≡ verdict_of f.k (resolved_by (tables_from cat.now f.nc f.nc 0) (parse_block view.now f.n 15 (parse_value view.now f.n 15) tables count 1)) }
-    ensures noted_view { NotedView (resolved_by (tables_from cat.now f.nc f.nc 0) (parse_block view.now f.n 15 (parse_value view.now f.n 15) tables count 1)) notes.old notes.new }
-    ensures ended_view { EndedView f.k (resolved_by (tables_from cat.now f.nc f.nc 0) (parse_block view.now f.n 15 (parse_value view.now f.n 15) tables count 1)) ends.old ends.new }
+) -> Result<Sums, Refusal>
+    requires { RootedIn source.now tables count }
+    ensures value { said result ≡ verdict_of source.now.files.k (root_in source.now tables count) }
+    ensures noted_view { NotedView (root_in source.now tables count) notes.old notes.new }
+    ensures ended_view { EndedView source.now.files.k (root_in source.now tables count) ends.old ends.new }
 {
-    let o = scope::open_block(cat, f.nc, starts, f.tables, view, 1, tables);
-    if !o.fine {
-        return Verdict::Refused(6, o.place);
+    let files = source.files;
+    let opened = scope::open_block(
+        source.cat,
+        files.nc,
+        source.starts,
+        files.tables,
+        source.view,
+        1,
+        tables,
+    );
+    if !opened.fine {
+        return Err(Refusal {
+            reason: Reason::NoTable,
+            place: opened.place as u16,
+        });
     }
-    let s = o.scope;
-    let t = [s; 16];
-    let mut held = scope::words_of(t);
-    match value(cat, starts, view, f, 1 + tables, 15, &mut held, 1, notes) {
-        Typed::Refused(i, p) => Verdict::Refused(i, p as usize),
-        Typed::Is(x) => {
-            let w = end_note(x);
-            leave(ends, 0, w);
-            match values(
-                cat,
-                starts,
-                view,
-                f,
-                x.next as usize,
-                &mut held,
-                count,
-                notes,
-                ends,
-            ) {
-                Counted::Refused(i, p) => Verdict::Refused(i, p),
-                Counted::Records(pairs) => {
-                    let ty = x.ty;
-                    let info = x.info;
-                    if cell::kind_of(ty) == 1 {
-                        Verdict::Fine(Sums {
-                            info,
-                            values: x.values as usize,
-                            classes: x.classes as usize,
-                            pairs,
-                        })
-                    } else {
-                        Verdict::Refused(9, 0)
-                    }
-                }
-            }
-        }
+    let own = opened.scope;
+    let mut held = scope::words_of([own; 16]);
+    let test = value(source, 1 + tables, 15, &mut held, 1, notes)?;
+    leave(ends, 0, end_note(test));
+    let first = usize::from(test.next);
+    let pairs = values(source, first, &mut held, count, notes, ends)?;
+    if test.ty != cell::Type::Boolean {
+        return Err(wrong_type(0));
     }
+    Ok(Sums {
+        info: test.info,
+        values: usize::from(test.values),
+        classes: usize::from(test.classes),
+        pairs,
+    })
 }
 
-// A whole view, whose structure was taken: its names and types, and how many records its parts take; its notes, and the ends of its where and of its values.
+/// A whole view, whose structure was taken: its names and types, and how many records its parts take; its notes, and the ends of its where and of its values.
 pub fn whole(
-    cat: &[u8],
-    starts: &[u16; 32],
-    view: &[u8],
-    f: Files,
+    source: &Source,
     notes: &mut [u64; 1024],
     ends: &mut [u64],
-) -> Verdict
-    requires { Accepted cat.now starts.now view.now f }
-    ensures value { result ≡ verdict_of f.k (resolved_by (tables_from cat.now f.nc f.nc 0) (parse_view view.now)) }
-    ensures noted_view { NotedView (resolved_by (tables_from cat.now f.nc f.nc 0) (parse_view view.now)) notes.old notes.new }
-    ensures ended_view { EndedView f.k (resolved_by (tables_from cat.now f.nc f.nc 0) (parse_view view.now)) ends.old ends.new }
+) -> Result<Sums, Refusal>
+    requires { AcceptedIn source.now }
+    ensures value { said result ≡ verdict_of source.now.files.k (view_in source.now) }
+    ensures noted_view { NotedView (view_in source.now) notes.old notes.new }
+    ensures ended_view { EndedView source.now.files.k (view_in source.now) ends.old ends.new }
 {
-    let node = view::node_at(view, 0);
-    let view::Node::Select(a, b) = node else {
-        return Verdict::Refused(4, 0);
+    let view::Node::Select(tables, count) = view::node_at(source.view, 0) else {
+        return Err(Refusal {
+            reason: Reason::WrongPlace,
+            place: 0,
+        });
     };
-    root(cat, starts, view, f, a as usize, b as usize, notes, ends)
+    root(
+        source,
+        usize::from(tables),
+        usize::from(count),
+        notes,
+        ends,
+    )
 }

@@ -1,10 +1,13 @@
 // What is known of a value from what is known of its parts: one method for each kind of node. Sizes stop just above 8,190.
 // Every function is total.
 ghost use Rattle.std.specs.Prelude.{◌≡◌, ℕ, ◌+◌, ◌<◌};
+ghost use Rattle.word.specs.Refusal.{said};
+ghost use Rattle.word.specs.declared.refusal.Reason.TheVariants as reason;
 ghost use Rattle.resolve.specs.Sizes.{capped, bind_size, weighed, join_w, choice_w, let_w};
-ghost use Rattle.resolve.specs.Steps.{class_of, stopped, known_by, leaf_k, two_k, not_k, brought_k, if_k, let_k, two_t, not_t, if_t, let_t, col_t, class_t};
+ghost use Rattle.resolve.specs.Steps.{class_of, stopped, known_by, leaf_k, two_k, not_k, brought_k, if_k, let_k, two_t, not_t, if_t, col_t, class_t};
 
-use crate::{Known, Typed, Weighed};
+use crate::{Known, Weighed};
+use word::{Reason, Refusal};
 
 /// One more than the records that a tree may have: here a size stops.
 const ENOUGH: u16 = 8191;
@@ -28,6 +31,16 @@ fn bind_size(info: class::Info, m: u16, d: u16, n: u16) -> u16
     }
 }
 
+/// A type rule is broken at a record.
+pub fn wrong_type(at: u16) -> Refusal
+    ensures { result ≡ record { reason = reason.WrongType; place = at } }
+{
+    Refusal {
+        reason: Reason::WrongType,
+        place: at,
+    }
+}
+
 impl Weighed {
     /// A class whose tree takes n records; one where it is fixed.
     #[tactic(auto, unfolding(crate::specs::Steps::stopped, crate::specs::Sizes::sized_i))]
@@ -47,7 +60,7 @@ impl Weighed {
         ensures { result ≡ stopped (join_w self other) }
     {
         Weighed::new(
-            class::joined(self.info, other.info),
+            self.info.join(other.info),
             plus(1, plus(self.size, other.size)),
         )
     }
@@ -58,7 +71,7 @@ impl Weighed {
         ensures { result ≡ stopped (choice_w d self other) }
     {
         Weighed::new(
-            class::chosen(self.info, other.info),
+            self.info.choose(other.info),
             plus(1, plus(d, plus(self.size, other.size))),
         )
     }
@@ -117,15 +130,15 @@ impl Known {
         Known::new(ty, right.next, values, self.class().join(right.class()))
     }
 
-    /// BINOP.
-    #[tactic(auto, using(crate::proofs::Leaves::answers))]
-    pub fn binop(self, at: u16, op: u8, right: Self) -> Typed
-        ensures { result ≡ two_t at op self right }
+    /// BINOP at a record, of whose left operand this is known; 9 where it has no type.
+    #[tactic(auto, using(cell::proofs::Options::options), unfolding(crate::specs::Steps::two_t, crate::specs::Steps::ruled_t))]
+    pub fn binop(self, at: u16, op: u8, right: Self) -> Result<Self, Refusal>
+        ensures { said result ≡ two_t at op self right }
     {
-        match cell::binop_type(op, self.ty, right.ty) {
-            cell::Judged::Is(ty) => Typed::Is(self.with(ty, right)),
-            cell::Judged::Broken => Typed::Refused(9, at),
-        }
+        let Some(ty) = cell::Type::binop(op, self.ty, right.ty) else {
+            return Err(wrong_type(at));
+        };
+        Ok(self.with(ty, right))
     }
 
     #[tactic(auto, using(crate::proofs::Leaves::knowns))]
@@ -140,16 +153,15 @@ impl Known {
         )
     }
 
-    /// NOT.
-    #[tactic(auto, using(crate::proofs::Leaves::answers))]
-    pub fn not(self, at: u16) -> Typed
-        ensures { result ≡ not_t at self }
+    /// NOT at a record; 9 where the operand isn't boolean.
+    #[tactic(auto, using(cell::proofs::Equal::equal_types), unfolding(crate::specs::Steps::not_t, crate::specs::Steps::bool_t))]
+    pub fn not(self, at: u16) -> Result<Self, Refusal>
+        ensures { said result ≡ not_t at self }
     {
-        if cell::kind_of(self.ty) == 1 {
-            Typed::Is(self.negated())
-        } else {
-            Typed::Refused(9, at)
+        if self.ty != cell::Type::Boolean {
+            return Err(wrong_type(at));
         }
+        Ok(self.negated())
     }
 
     /// A limb brought to a type: CONV where it has another.
@@ -157,7 +169,7 @@ impl Known {
     fn brought(self, ty: cell::Type) -> Self
         ensures { result ≡ brought_k ty self }
     {
-        let values = if cell::same_type(self.ty, ty) {
+        let values = if self.ty == ty {
             self.values
         } else {
             plus(1, self.values)
@@ -174,21 +186,18 @@ impl Known {
         Known::new(ty, no.next, values, self.class().join(choice))
     }
 
-    /// IF, of whose condition this is known.
-    #[tactic(auto, using(crate::proofs::Leaves::answers))]
-    pub fn branch(self, at: u16, yes: Self, no: Self) -> Typed
-        ensures { result ≡ if_t at self yes no }
+    /// IF at a record, of whose condition this is known; 9 where that isn't boolean or the limbs have no type in common.
+    #[tactic(auto, using(cell::proofs::Equal::equal_types, cell::proofs::Options::options), unfolding(crate::specs::Steps::if_t, crate::specs::Steps::bool_t, crate::specs::Steps::ruled_t))]
+    pub fn branch(self, at: u16, yes: Self, no: Self) -> Result<Self, Refusal>
+        ensures { said result ≡ if_t at self yes no }
     {
-        if cell::kind_of(self.ty) == 1 {
-            match cell::limb_type(yes.ty, no.ty) {
-                cell::Judged::Is(ty) => {
-                    Typed::Is(self.either(ty, yes.brought(ty), no.brought(ty)))
-                }
-                cell::Judged::Broken => Typed::Refused(9, at),
-            }
-        } else {
-            Typed::Refused(9, at)
+        if self.ty != cell::Type::Boolean {
+            return Err(wrong_type(at));
         }
+        let Some(ty) = cell::Type::limb(yes.ty, no.ty) else {
+            return Err(wrong_type(at));
+        };
+        Ok(self.either(ty, yes.brought(ty), no.brought(ty)))
     }
 
     /// LET, of whose value this is known.
@@ -202,43 +211,43 @@ impl Known {
     }
 }
 
-// LET, by the answer for its body.
-#[tactic(auto, using(crate::proofs::Leaves::answers))]
-pub fn with_body(x: Known, r: Typed) -> Typed
-    ensures { result ≡ let_t x r }
+/// COL at a record, by what its name finds: 7 where it finds nothing, 8 where more than one.
+#[tactic(auto, unfolding(crate::specs::Steps::col_t))]
+pub fn column(at: u16, found: scope::Found) -> Result<Known, Refusal>
+    requires { at < 65535 }
+    ensures { said result ≡ col_t at found }
 {
-    match r {
-        Typed::Is(y) => Typed::Is(x.bind(y)),
-        Typed::Refused(i, p) => Typed::Refused(i, p),
+    match found {
+        scope::Found::Column(_, _, _, ty, info, _) => Ok(Known::leaf(ty, info, at + 1)),
+        scope::Found::Local(_, ty, info) => Ok(Known::leaf(ty, info, at + 1)),
+        scope::Found::None => Err(Refusal {
+            reason: Reason::NoColumn,
+            place: at,
+        }),
+        scope::Found::Ambiguous => Err(Refusal {
+            reason: Reason::Ambiguous,
+            place: at,
+        }),
     }
 }
 
-// COL.
-#[tactic(auto, using(crate::proofs::Leaves::names))]
-pub fn of_column(at: u16, h: scope::Found) -> Typed
+/// CLASSOF at a record: as COL, but a local counts as no column.
+#[tactic(auto, unfolding(crate::specs::Steps::class_t))]
+pub fn class_of(at: u16, found: scope::Found) -> Result<Known, Refusal>
     requires { at < 65535 }
-    ensures { result ≡ col_t at h }
+    ensures { said result ≡ class_t at found }
 {
-    match h {
-        scope::Found::Column(_, _, _, t, i, _) => Typed::Is(Known::leaf(t, i, at + 1)),
-        scope::Found::Local(_, t, i) => Typed::Is(Known::leaf(t, i, at + 1)),
-        scope::Found::None => Typed::Refused(7, at),
-        scope::Found::Ambiguous => Typed::Refused(8, at),
-    }
-}
-
-// CLASSOF.
-#[tactic(auto, using(crate::proofs::Leaves::names))]
-pub fn of_class(at: u16, h: scope::Found) -> Typed
-    requires { at < 65535 }
-    ensures { result ≡ class_t at h }
-{
-    match h {
+    match found {
         scope::Found::Column(_, _, _, _, _, row) => {
-            Typed::Is(Known::leaf(cell::Type::Class, row, at + 1))
+            Ok(Known::leaf(cell::Type::Class, row, at + 1))
         }
-        scope::Found::Local(_, _, _) => Typed::Refused(7, at),
-        scope::Found::None => Typed::Refused(7, at),
-        scope::Found::Ambiguous => Typed::Refused(8, at),
+        scope::Found::Local(_, _, _) | scope::Found::None => Err(Refusal {
+            reason: Reason::NoColumn,
+            place: at,
+        }),
+        scope::Found::Ambiguous => Err(Refusal {
+            reason: Reason::Ambiguous,
+            place: at,
+        }),
     }
 }

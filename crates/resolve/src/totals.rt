@@ -1,9 +1,10 @@
 // The types of EXISTS and COUNT, and of VALUE, MAX and MIN over a value's type.
 // Every function is total.
 ghost use Rattle.std.specs.Prelude.{◌≡◌};
-ghost use Rattle.cell.specs.Types.{judged_of};
-ghost use Rattle.resolve.specs.Totals.{fold_type, ordered_type, pick_type};
+ghost use Rattle.cell.specs.Res.{option_of};
+ghost use Rattle.resolve.specs.Totals.{fold_type, pick_type};
 
+/// The type of EXISTS, and of COUNT.
 #[tactic(auto, unfolding(crate::specs::Totals::fold_type))]
 pub fn fold_type(f: view::Fold) -> cell::Type
     ensures { result ≡ fold_type f }
@@ -14,23 +15,15 @@ pub fn fold_type(f: view::Fold) -> cell::Type
     }
 }
 
-// A type that has an order: fixed, time or interval.
-#[tactic(auto, unfolding(crate::specs::Totals::ordered_type, cell::specs::Types::judged_of, cell::specs::Types::kind_of))]
-fn ordered_type(t: cell::Type) -> cell::Judged
-    ensures { result ≡ judged_of (ordered_type t) }
-{
-    match t {
-        cell::Type::Fixed(_, _) | cell::Type::Time(_) | cell::Type::Interval(_) => cell::Judged::Is(t),
-        _ => cell::Judged::Broken,
-    }
-}
-
-#[tactic(auto, unfolding(crate::specs::Totals::pick_type, cell::specs::Types::judged_of))]
-pub fn pick_type(g: view::Pick, t: cell::Type) -> cell::Judged
-    ensures { result ≡ judged_of (pick_type g t) }
+/// The type of VALUE, MAX and MIN over a value's type: MAX and MIN have one where it has an order.
+#[tactic(auto, unfolding(crate::specs::Totals::pick_type, crate::specs::Totals::ordered_type, cell::specs::Res::option_of, cell::specs::Types::kind_of))]
+pub fn pick_type(g: view::Pick, t: cell::Type) -> Option<cell::Type>
+    ensures { result ≡ option_of (pick_type g t) }
 {
     match g {
-        view::Pick::Only => cell::Judged::Is(t),
-        view::Pick::Greatest | view::Pick::Least => ordered_type(t),
+        view::Pick::Only => Some(t),
+        view::Pick::Greatest | view::Pick::Least => {
+            matches!(t.kind(), 2..=4).then_some(t)
+        }
     }
 }

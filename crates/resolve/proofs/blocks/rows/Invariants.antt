@@ -7,7 +7,7 @@ use Rattle.resolve.proofs.Tables.{Joined}
 use Rattle.resolve.proofs.blocks.rows.Given as goal
 
 abbrev pub invariant-loop-j : goal.invariant-loop-j
-invariant-loop-j l = Joined (tables_in (open_of l.cat l.n l.s)) l.w l.j
+invariant-loop-j l = Joined (tables_in (open_of l.cat l.n l.s)) l.joined l.j
 
 abbrev pub decreases-loop-j : goal.decreases-loop-j
 decreases-loop-j l = l.m - l.j

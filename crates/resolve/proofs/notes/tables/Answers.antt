@@ -4,7 +4,7 @@ use Rattle.resolve.proofs.Noting.{numbers_again, numbers_done}
 use Rattle.resolve.proofs.notes.tables.Goals as goal
 
 pub loop-j-preserved : goal.loop-j-preserved
-loop-j-preserved c = numbers_again _ _ _ _ _ _ _ c.requires.tabled _ _ _ c.loop-j.invariant _ _ c.loop-j-test.true c.table_number-k.ensures c.note.ensures
+loop-j-preserved c = numbers_again _ _ _ _ _ _ _ c.requires.tabled _ _ _ c.loop-j.invariant _ _ c.loop-j-test.true c.table_number-number.ensures c.note.ensures
 
 pub returns : goal.returns
 returns c = numbers_done _ _ _ _ _ _ _ c.requires.tabled _ _ _ c.loop-j.invariant c.loop-j-test.false

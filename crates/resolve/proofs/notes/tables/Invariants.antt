@@ -5,7 +5,7 @@ use Rattle.resolve.proofs.Noting.{Numbered}
 use Rattle.resolve.proofs.notes.tables.Given as goal
 
 abbrev pub invariant-loop-j : goal.invariant-loop-j
-invariant-loop-j l = Numbered l.cat l.n l.view l.at l.count l.initial.notes l.notes l.j
+invariant-loop-j l = Numbered l.source.cat.now l.source.files.nc l.source.view.now l.at l.count l.initial.notes l.notes l.j
 
 abbrev pub decreases-loop-j : goal.decreases-loop-j
 decreases-loop-j l = l.count - l.j

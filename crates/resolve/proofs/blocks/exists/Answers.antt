@@ -1,0 +1,7 @@
+-- `resolve::blocks::exists` meets its contract.
+-- Assumes nothing.
+use Rattle.resolve.proofs.Tables.{blocked}
+use Rattle.resolve.proofs.blocks.exists.Goals as goal
+
+pub returns : goal.returns
+returns c = search blocked

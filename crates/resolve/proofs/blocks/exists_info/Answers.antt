@@ -1,0 +1,7 @@
+-- `resolve::blocks::exists_info` meets its contract.
+-- Assumes nothing.
+use Rattle.resolve.proofs.Tables.{informed}
+use Rattle.resolve.proofs.blocks.exists_info.Goals as goal
+
+pub returns : goal.returns
+returns c = search informed
