@@ -1,6 +1,6 @@
 -- The type of a value that keeps the rules is narrow, p and s below 16, whatever the catalogue: a column has them from one byte, a constant by its rule.
 -- Assumes nothing.
-use Prim.Native.Nat.{ℕ, zero, suc, ◌+◌, ◌-◌, ◌/◌, ◌%◌, ◌<◌, max}
+use Prim.Native.Nat.{ℕ, zero, suc, ◌+◌, ◌-◌, ◌/◌, ◌%◌, ◌<◌, max, min}
 use mathlib.Core.Path.{◌≡◌, refl, sym, ap, ◌∙◌, subst}
 use mathlib.Core.Bool.{Bool, true, false, cond}
 use mathlib.Core.List.{List, [], ◌∷◌}
@@ -27,10 +27,10 @@ use Rattle.view.specs.declared.Node.TheVariants.{Exists}
 use Rattle.view.proofs.Constants.{ruled_at}
 use Rattle.view.proofs.Says.{exists_digits}
 use Rattle.scope.specs.Scopes.{block, local}
-use Rattle.scope.specs.Words.{count_in, table_in, name_in, type_in}
 use Rattle.scope.specs.Table.{tabs_at, open_of, blank, scopes_of}
-use Rattle.scope.specs.Entry.{local_scope}
+use Rattle.scope.specs.Entry.{local_scope, table_in, type_in}
 use Rattle.scope.specs.declared.Scope.{Scope}
+use Rattle.scope.specs.declared.Scope.TheVariants as S
 use Rattle.scope.proofs.Locals.{local_type}
 use Rattle.resolve.specs.Expr.{Expr}
 use Rattle.resolve.specs.Totals.{fold_type}
@@ -162,12 +162,9 @@ tabs_narrow c n s i zero = tt
 tabs_narrow c n s i (suc k) = (table_narrow c n (table_in s i), tabs_narrow c n s (i + 1) k)
 
 open_narrow : (c : List ℕ) (n : ℕ) (s : Scope) → Narrow (type_in s) → kept.Scope Narrow (open_of c n s)
-unfolding open_of
-open_narrow c n s h = go (eqb (count_in s) 0) _ (tabs_narrow c n s 0 _)
-  where
-    go : (b : Bool) (ts : List Table) → kept.Tables Narrow ts → kept.Scope Narrow (cond b (local (name_in s) (type_in s)) (block ts))
-    go true ts k = h
-    go false ts k = k
+unfolding open_of type_in
+open_narrow c n (S.Block b) h = tabs_narrow c n (S.Block b) 0 (min b.count 4)
+open_narrow c n (S.Local l) h = h
 
 scopes_narrow : (c : List ℕ) (n : ℕ) (t : List Scope) (deep : ℕ) → ((j : ℕ) → j < deep → Narrow (type_in (get_or t j blank))) → kept.Scopes Narrow (scopes_of c n t deep)
 unfolding scopes_of

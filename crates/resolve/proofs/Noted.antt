@@ -45,11 +45,10 @@ use Rattle.resolve.proofs.Noting.{put_cons, put_last, chain, limb_notes, mark_pu
 -- ---- over a catalogue and the open scopes
 
 module _ (cat : List Table) (Γ : List Open) (P : Parsed Exp) where
-  -- where the walk refuses, nothing else is said
-  pub noted_refused : (k : ℕ) (is : List Info) (at : ℕ) (o o' : List ℕ) (i p : ℕ)
-      → refusal i p ≡ typed_by k cat Γ is P → (refusal i p ≡ typed_by k cat Γ is P) × NotedBy cat Γ P at o o'
+  -- where the walk refuses, nothing is said of the notes
+  pub unnoted : (k : ℕ) (is : List Info) (at : ℕ) (o o' : List ℕ) (i p : ℕ) → refusal i p ≡ typed_by k cat Γ is P → NotedBy cat Γ P at o o'
   unfolding NotedBy Noted typed_by typed_at
-  noted_refused k is at o o' i p e = (e, go P e)
+  unnoted k is at o o' i p e = go P e
     where
       by : (next : ℕ) (r : Out) → refusal i p ≡ typed_at k is next r → Noted r at o o'
       by next (good x t) g = absurd (let z : ◌≡◌ {A = ℕ} 0 1 = cc in omega arith)

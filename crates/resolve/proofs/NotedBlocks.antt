@@ -20,7 +20,6 @@ use Rattle.scope.specs.Table.{scopes_of, infos_of}
 use Rattle.scope.specs.Blocks.{Tabs, all, tables_named, refs_of, opened}
 use Rattle.scope.specs.Entry.{opened_by}
 use Rattle.scope.specs.declared.Scope.{Scope}
-use Rattle.scope.specs.declared.Opened.{Opened}
 use Rattle.resolve.specs.Resolve.{good, resolve}
 use Rattle.resolve.specs.Notes.{notes_of, numbers_at}
 use Rattle.resolve.specs.Claims.{Ready, answer_at, block_node}
@@ -44,7 +43,7 @@ unfolding refs_of
 refs_are T ts e = rw e
 
 module _ (c ss v : List ℕ) (f : Files) (t : List Scope) (deep d at : ℕ) (w : Ready c ss v f t deep d at) (asked : Asked) (count : ℕ) (g : node_at v at ≡ block_node asked count)
-    (b : Opened) (p : b ≡ opened_by ss (tables_named (tables_from c f.nc f.nc 0) (names_at v (at + 1) count))) (z : not b.fine ≡ false) (u : List Scope) (q : u ≡ set t deep b.scope)
+    (b : Scope) (p : fine b ≡ opened_by ss (tables_named (tables_from c f.nc f.nc 0) (names_at v (at + 1) count))) (u : List Scope) (q : u ≡ set t deep b)
     (o o₁ o₂ o₃ : List ℕ) (h₁ : o₁ ≡ set o at 0) (h₂ : o₂ ≡ put o₁ (at + 1) (numbers_at c f.nc v (at + 1) count)) (h₃ : NotedAt c v f u (deep + 1) (d - 1) (at + 1 + count) o₂ o₃) where
   abbrev cat : List Table
   cat = tables_from c f.nc f.nc 0
@@ -63,7 +62,7 @@ module _ (c ss v : List ℕ) (f : Files) (t : List Scope) (deep d at : ℕ) (w :
   before = h₂ ∙ ap (λ (l : List ℕ). put l (at + 1) ns) h₁ ∙ put_cons o at 0 ns
 
   inside : (ts : List TabRef) → tables_named (tables_from c f.nc f.nc 0) (names_at v (at + 1) count) ≡ all ts → scopes_of c f.nc u (deep + 1) ≡ opened ts ∷ scopes_of c f.nc t deep
-  inside ts e = block_scopes c ss v f t deep d at w asked count g b p z u q ∙ ap (λ (us : List TabRef). opened us ∷ scopes_of c f.nc t deep) (refs_are _ ts e)
+  inside ts e = block_scopes c ss v f t deep d at w asked count g b p u q ∙ ap (λ (us : List TabRef). opened us ∷ scopes_of c f.nc t deep) (refs_are _ ts e)
 
   pub exists_noted : (k : Fold) → asked ≡ ask.Rows k → NotedAt c v f t deep d at o o₃
   unfolding notes_of

@@ -23,7 +23,6 @@ use Rattle.scope.specs.Table.{scopes_of, infos_of}
 use Rattle.scope.specs.Blocks.{tables_named}
 use Rattle.scope.specs.Entry.{opened_by}
 use Rattle.scope.specs.declared.Scope.{Scope}
-use Rattle.scope.specs.declared.Opened.{Opened}
 use Rattle.scope.proofs.Named.{names_length}
 use Rattle.resolve.specs.Expr.{Expr}
 use Rattle.resolve.specs.Resolve.{Out, good, bad, resolve, Outs, goods, bads, also_out, resolve_all, Resolved, select, refused as denied, with_values, with_test}
@@ -45,11 +44,16 @@ unfolding EndedAll
 all_ends k is (goods xs ts) at i o o' h = ap length h ∙ length_put o i (ends_of k is at xs)
 all_ends k is (bads j p) at i o o' h = h
 
-pub all_refused : (k : ℕ) (is : List Info) (vs : Outs) (at n : ℕ) (o o' s s' : List ℕ) (i p : ℕ) → refusal i p ≡ verdict_all k is vs → length s' ≡ length s
-    → (refusal i p ≡ verdict_all k is vs) × (NotedAll vs at o o' × EndedAll k is vs at n s s')
-unfolding NotedAll EndedAll verdict_all
-all_refused k is (goods xs ts) at n o o' s s' i p e m = absurd (let z : ◌≡◌ {A = ℕ} 0 1 = cc in omega arith)
-all_refused k is (bads j q) at n o o' s s' i p e m = (e, (tt, m))
+-- of the notes and ends of values that are refused little is said
+pub all_unnoted : (k : ℕ) (is : List Info) (vs : Outs) (at : ℕ) (o o' : List ℕ) (i p : ℕ) → refusal i p ≡ verdict_all k is vs → NotedAll vs at o o'
+unfolding NotedAll verdict_all
+all_unnoted k is (goods xs ts) at o o' i p e = absurd (let z : ◌≡◌ {A = ℕ} 0 1 = cc in omega arith)
+all_unnoted k is (bads j q) at o o' i p e = tt
+
+pub all_unended : (k : ℕ) (is : List Info) (vs : Outs) (at n : ℕ) (s s' : List ℕ) (i p : ℕ) → refusal i p ≡ verdict_all k is vs → length s' ≡ length s → EndedAll k is vs at n s s'
+unfolding EndedAll verdict_all
+all_unended k is (goods xs ts) at n s s' i p e m = absurd (let z : ◌≡◌ {A = ℕ} 0 1 = cc in omega arith)
+all_unended k is (bads j q) at n s s' i p e m = m
 
 also_noted : (r : Out) (vs : Outs) (at next : ℕ) (o o₁ o₂ : List ℕ) → Noted r at o o₁ → NotedAll vs next o₁ o₂ → ((x : Expr) (t : Ty) → r ≡ good x t → next ≡ at + length (notes_of x))
     → NotedAll (also_out r vs) at o o₂
@@ -148,11 +152,15 @@ module _ (c v : List ℕ) (f : Files) (t : List Scope) where
       ending_again = record { long = ap length h ∙ length-set s (j + 1) a ∙ w.long; onward = λ s' k. w.onward s' (end_step s' k) }
 
 -- THE WHOLE VIEW
-pub view_refused : (k : ℕ) (R : Resolved) (o o' s s' : List ℕ) (i p : ℕ) → refusal i p ≡ verdict_of k R → length s' ≡ length s
-    → (refusal i p ≡ verdict_of k R) × (NotedView R o o' × EndedView k R s s')
-unfolding NotedView EndedView verdict_of
-view_refused k (select q ts) o o' s s' i p e m = absurd (let z : ◌≡◌ {A = ℕ} 0 1 = cc in omega arith)
-view_refused k (denied j q) o o' s s' i p e m = (e, (tt, m))
+pub view_unnoted : (k : ℕ) (R : Resolved) (o o' : List ℕ) (i p : ℕ) → refusal i p ≡ verdict_of k R → NotedView R o o'
+unfolding NotedView verdict_of
+view_unnoted k (select q ts) o o' i p e = absurd (let z : ◌≡◌ {A = ℕ} 0 1 = cc in omega arith)
+view_unnoted k (denied j q) o o' i p e = tt
+
+pub view_unended : (k : ℕ) (R : Resolved) (s s' : List ℕ) (i p : ℕ) → refusal i p ≡ verdict_of k R → length s' ≡ length s → EndedView k R s s'
+unfolding EndedView verdict_of
+view_unended k (select q ts) s s' i p e m = absurd (let z : ◌≡◌ {A = ℕ} 0 1 = cc in omega arith)
+view_unended k (denied j q) s s' i p e m = m
 
 -- the notes of a view that is taken are as many as before
 pub taken_long : (k : ℕ) (R : Resolved) (o o' : List ℕ) (r : Checked Sums) (s : Sums) → r ≡ verdict_of k R → r ≡ fine s → NotedView R o o' → length o' ≡ length o
@@ -192,33 +200,33 @@ test_ended k is ts (good x t) (goods ys us) at next n o o₁ o₂ m h g a l = go
 test_ended k is ts (good x t) (bads i p) at next n o o₁ o₂ m h g a l = g ∙ ap length h ∙ length-set o 0 n
 test_ended k is ts (bad i p) vs at next n o o₁ o₂ m h g a l = all_ends k is vs next 1 o₁ o₂ g ∙ ap length h ∙ length-set o 0 n
 
-module _ (c ss v : List ℕ) (f : Files) (tables count : ℕ) (w : Rooted c ss v f tables count) (b : Opened)
-    (q : b ≡ opened_by ss (tables_named (tables_from c f.nc f.nc 0) (names_at v 1 tables))) (z : not b.fine ≡ false)
-    (l : Checked Known) (a : l ≡ answer_at c v f (replicate 16 b.scope) 1 15 (1 + tables)) (x : Known) (g : l ≡ fine x) where
+module _ (c ss v : List ℕ) (f : Files) (tables count : ℕ) (w : Rooted c ss v f tables count) (b : Scope)
+    (q : fine b ≡ opened_by ss (tables_named (tables_from c f.nc f.nc 0) (names_at v 1 tables)))
+    (l : Checked Known) (a : l ≡ answer_at c v f (replicate 16 b) 1 15 (1 + tables)) (x : Known) (g : l ≡ fine x) where
   module _ (o o₁ o₂ : List ℕ)
-      (h : NotedBy (tables_from c f.nc f.nc 0) (scopes_of c f.nc (replicate 16 b.scope) 1) (parse_value v f.n 15 (1 + tables)) (1 + tables) o o₁)
-      (k : NotedAll (resolved_all (tables_from c f.nc f.nc 0) (scopes_of c f.nc (replicate 16 b.scope) 1) (many (parse_value v f.n 15) count x.next)) x.next o₁ o₂) where
+      (h : NotedBy (tables_from c f.nc f.nc 0) (scopes_of c f.nc (replicate 16 b) 1) (parse_value v f.n 15 (1 + tables)) (1 + tables) o o₁)
+      (k : NotedAll (resolved_all (tables_from c f.nc f.nc 0) (scopes_of c f.nc (replicate 16 b) 1) (many (parse_value v f.n 15) count x.next)) x.next o₁ o₂) where
     pub root_noted : NotedView (resolved_by (tables_from c f.nc f.nc 0) (parse_block v f.n 15 (parse_value v f.n 15) tables count 1)) o o₂
     unfolding resolved_all
     root_noted =
         let p = parts c ss v f tables count w in
-        let to : p.mid ≡ x.next = after f.k _ _ (infos_of (replicate 16 b.scope) 1) _ p.first (sym a ∙ g) in
+        let to : p.mid ≡ x.next = after f.k _ _ (infos_of (replicate 16 b) 1) _ p.first (sym a ∙ g) in
         let i = by_parsed _ _ _ w.is_read.tree.test p.mid (1 + tables) o o₁ p.first h in
-        let j = rw (values_at c ss v f tables count w b q z l a x g) at k in
-        let m = names_length (tables_from c f.nc f.nc 0) v 1 tables _ (there c ss v f tables count w b q z).found in
-        rw (out_parts c ss v f tables count w b q z) (test_noted _ _ _ (1 + tables) x.next o o₁ o₂ i j (omega arith) (λ y s d.
+        let j = rw (values_at c ss v f tables count w b q l a x g) at k in
+        let m = names_length (tables_from c f.nc f.nc 0) v 1 tables _ (there c ss v f tables count w b q).found in
+        rw (out_parts c ss v f tables count w b q) (test_noted _ _ _ (1 + tables) x.next o o₁ o₂ i j (omega arith) (λ y s d.
         let u = notes_length _ v f.n 15 (1 + tables) w.is_read.tree.test p.mid p.first _ y s d in
         omega arith))
 
   pub root_ended : (n : ℕ) → n ≡ end_note x.next x.info → (o o₁ o₂ : List ℕ) → o₁ ≡ set o 0 n
-      → EndedAll f.k (infos_of (replicate 16 b.scope) 1) (resolved_all (tables_from c f.nc f.nc 0) (scopes_of c f.nc (replicate 16 b.scope) 1) (many (parse_value v f.n 15) count x.next)) x.next 1 o₁ o₂
+      → EndedAll f.k (infos_of (replicate 16 b) 1) (resolved_all (tables_from c f.nc f.nc 0) (scopes_of c f.nc (replicate 16 b) 1) (many (parse_value v f.n 15) count x.next)) x.next 1 o₁ o₂
       → EndedView f.k (resolved_by (tables_from c f.nc f.nc 0) (parse_block v f.n 15 (parse_value v f.n 15) tables count 1)) o o₂
   unfolding resolved_all
   root_ended n d o o₁ o₂ h k =
       let p = parts c ss v f tables count w in
-      let to : p.mid ≡ x.next = after f.k _ _ (infos_of (replicate 16 b.scope) 1) _ p.first (sym a ∙ g) in
-      let j = rw (values_at c ss v f tables count w b q z l a x g) at k in
-      let m = names_length (tables_from c f.nc f.nc 0) v 1 tables _ (there c ss v f tables count w b q z).found in
-      rw (out_parts c ss v f tables count w b q z) (test_ended f.k (infos_of (replicate 16 b.scope) 1) _ _ _ (1 + tables) x.next n o o₁ o₂ (root_infos c ss v f tables count w b q z) h j (omega arith) (λ y s i.
+      let to : p.mid ≡ x.next = after f.k _ _ (infos_of (replicate 16 b) 1) _ p.first (sym a ∙ g) in
+      let j = rw (values_at c ss v f tables count w b q l a x g) at k in
+      let m = names_length (tables_from c f.nc f.nc 0) v 1 tables _ (there c ss v f tables count w b q).found in
+      rw (out_parts c ss v f tables count w b q) (test_ended f.k (infos_of (replicate 16 b) 1) _ _ _ (1 + tables) x.next n o o₁ o₂ (root_infos c ss v f tables count w b q) h j (omega arith) (λ y s i.
       let u = notes_length _ v f.n 15 (1 + tables) w.is_read.tree.test p.mid p.first _ y s i in
-      (omega arith, end_known f.k _ _ (infos_of (replicate 16 b.scope) 1) _ w.is_read.tree.test p.mid x y s n p.first i (sym a ∙ g) d)))
+      (omega arith, end_known f.k _ _ (infos_of (replicate 16 b) 1) _ w.is_read.tree.test p.mid x y s n p.first i (sym a ∙ g) d)))

@@ -10,6 +10,7 @@ use native.Mathlib.Decide.{dec_lt}
 use borrow.Author.Rules.{rules}
 use lib.ListN.{length, get_or, set, drop, length-map, drop_of_length-le}
 use lib.Seq.{drop-cons, set_out, set-set, set_comm, get_or-set_same}
+use Rattle.std.specs.Prelude.{Option, Some, None}
 use Rattle.word.specs.Buffer.{put}
 use Rattle.word.proofs.Writing.{put_append, put_nil, length_put, put_before}
 use Rattle.word.specs.Refusal.{Checked, fine, refusal}
@@ -19,7 +20,7 @@ use Rattle.cell.specs.Res.{done, nth}
 use Rattle.cell.specs.Types.{digits_of, scale_of, same_type}
 use Rattle.cell.specs.declared.Type.{«Type» as Ty}
 use Rattle.catalogue.specs.Tables.{TabRef, tables_from, table_named}
-use Rattle.catalogue.specs.Starts.{ref_by}
+use Rattle.catalogue.specs.Starts.{ref_of}
 use Rattle.view.specs.Record.{node_at}
 use Rattle.view.specs.Parse.{name_of, names_at}
 use Rattle.scope.specs.Blocks.{all, refs_of, tables_named}
@@ -136,25 +137,31 @@ unfolding numbers_at refs_of
 numbers_length c n v at count ts e = rw e (length-map ts _ ∙ names_length (tables_from c n n 0) v at count ts e)
 
 module _ (c : List ℕ) (n : ℕ) (ss : List ℕ) (tables : ℕ) (v : List ℕ) (at count : ℕ) (w : Tabled c n ss tables v at count) (o₀ o : List ℕ) (j : ℕ) (l : Numbered c n v at count o₀ o j) where
-  next_number : (k : ℕ) → j < count → (table_named (name_of (node_at v (at + j))) (tables_from c n n 0) ≡ ref_by c n ss tables k) × (k ≤ tables)
-      → drop j (numbers_at c n v at count) ≡ k ∷ drop (suc j) (numbers_at c n v at count)
+  -- the table of the next TABLE record is there
+  next_is : (r : Option ℕ) → j < count → table_named (name_of (node_at v (at + j))) (tables_from c n n 0) ≡ ref_of c n ss r
+      → (t : TabRef) × (r ≡ Some t.num) × (drop j (numbers_at c n v at count) ≡ t.num ∷ drop (suc j) (numbers_at c n v at count))
   unfolding numbers_at
-  next_number k h e =
+  next_is r h e =
       let ts = refs_of (tables_named (tables_from c n n 0) (names_at v at count)) in
       let m = names_length (tables_from c n n 0) v at count ts w.found in
       let p = number_at ts j (omega (arith, m)) in
-      let q : k ≡ p.0.num = number_again c n tables ss v at count ts p.0 j (at + j) k w.found h p.1 refl e in
+      let q : r ≡ Some p.0.num = number_again c n tables ss v at count ts p.0 j (at + j) r w.found h p.1 refl e in
       let z : j < length (map (λ (u : TabRef). u.num) ts) = omega (arith, m, length-map ts (λ (u : TabRef). u.num)) in
-      drop-cons (map (λ (u : TabRef). u.num) ts) j 0 z ∙ ap (λ (x : ℕ). x ∷ drop (suc j) (map (λ (u : TabRef). u.num) ts)) (p.2 ∙ sym q)
+      (p.0, q, drop-cons (map (λ (u : TabRef). u.num) ts) j 0 z ∙ ap (λ (x : ℕ). x ∷ drop (suc j) (map (λ (u : TabRef). u.num) ts)) p.2)
 
-  pub numbers_again : (k : ℕ) (o₁ : List ℕ) → j < count → (table_named (name_of (node_at v (at + j))) (tables_from c n n 0) ≡ ref_by c n ss tables k) × (k ≤ tables)
+  pub numbers_there : j < count → table_named (name_of (node_at v (at + j))) (tables_from c n n 0) ≡ ref_of c n ss None → ⊥
+  numbers_there h e = let p = next_is None h e in let z : ◌≡◌ {A = Option ℕ} None (Some p.0.num) = p.1 in absurd (let q : ◌≡◌ {A = ℕ} 0 1 = cc in omega arith)
+
+  pub numbers_again : (k : ℕ) (o₁ : List ℕ) → j < count → table_named (name_of (node_at v (at + j))) (tables_from c n n 0) ≡ ref_of c n ss (Some k)
       → o₁ ≡ set o (at + j) k → Numbered c n v at count o₀ o₁ (j + 1)
   unfolding put
   numbers_again k o₁ h e f =
       let a : at + (j + 1) ≡ suc (at + j) = omega arith in
+      let p = next_is (Some k) h e in
+      let q : k ≡ p.0.num = (let x : Some k ≡ Some p.0.num = p.1 in cc) in
       record {
         few = omega arith;
-        todo = rw (f, a, add-one j) (ap (put o (at + j)) (sym (next_number k h e)) ∙ l.todo);
+        todo = rw (f, q, a, add-one j) (ap (put o (at + j)) (sym p.2) ∙ l.todo);
       }
 
   pub numbers_done : count ≤ j → o ≡ put o₀ at (numbers_at c n v at count)

@@ -16,6 +16,8 @@ use Rattle.class.specs.declared.Info.{Info}
 use Rattle.class.specs.declared.Info.TheVariants.{Fixed}
 use Rattle.cell.specs.Types.{kind_of}
 use Rattle.cell.specs.declared.Type.{«Type» as Ty}
+use Rattle.cell.specs.declared.Type.TheVariants as T
+use Rattle.cell.proofs.Equal.{type_eqb, boolean_eq}
 use Rattle.catalogue.specs.Tables.{Table, TabRef, tables_from}
 use Rattle.view.specs.Ast.{TabName, Exp, Block, Parsed, ok}
 use Rattle.view.specs.Record.{node_at}
@@ -27,11 +29,9 @@ use Rattle.view.proofs.Says.{select_few}
 use Rattle.view.proofs.Whole.{Taken, taken, taken_count, select_read}
 use Rattle.scope.specs.Scopes.{Open}
 use Rattle.scope.specs.Table.{blank, scopes_of, infos_of}
-use Rattle.scope.specs.Words.{type_in}
 use Rattle.scope.specs.Blocks.{Tabs, tables_named, refs_of, opened}
-use Rattle.scope.specs.Entry.{opened_by}
+use Rattle.scope.specs.Entry.{opened_by, type_in}
 use Rattle.scope.specs.declared.Scope.{Scope}
-use Rattle.scope.specs.declared.Opened.{Opened}
 use Rattle.scope.proofs.Named.{BlockOpened, block_missing, block_opened}
 use Rattle.resolve.specs.Expr.{Expr}
 use Rattle.resolve.specs.Resolve.{Out, good, bad, resolve, Outs, goods, bads, also_out, resolve_all, select, refused as denied, with_values, with_test, with_tabs, resolve_view}
@@ -47,7 +47,7 @@ use Rattle.resolve.proofs.Inversion.{GoodAt, typed_known, typed_refused}
 use Rattle.resolve.proofs.Narrow.{narrow_entry}
 use Rattle.resolve.proofs.Turns.{after}
 use Rattle.resolve.proofs.Weights.{plus_capped}
-use Rattle.resolve.proofs.Scoped.{not_true, not_false, missing_first}
+use Rattle.resolve.proofs.Scoped.{not_true, not_false}
 
 -- SEVERAL VALUES
 -- n records were counted before the rest
@@ -205,99 +205,94 @@ module _ (c ss v : List ℕ) (f : Files) (tables count : ℕ) (w : Rooted c ss v
   pub root_room : 8 + 8 * (1 + tables) ≤ length v
   root_room = let h = where_here in omega arith
 
-  module _ (o : Opened) (q : o ≡ opened_by ss (tables_named (tables_from c f.nc f.nc 0) (names_at v 1 tables))) where
-    pub root_6 : not o.fine ≡ true → refusal 6 o.place
-        ≡ verdict_of f.k (resolved_by (tables_from c f.nc f.nc 0) (parse_block v f.n 15 (parse_value v f.n 15) tables count 1))
-    unfolding with_tabs verdict_of
-    root_6 z = sym (by_tables ∙ rw (block_missing ss tabs o q (not_true o.fine z)))
+  pub root_6 : (i k : ℕ) → refusal i k ≡ opened_by ss (tables_named (tables_from c f.nc f.nc 0) (names_at v 1 tables))
+      → refusal i k ≡ verdict_of f.k (resolved_by (tables_from c f.nc f.nc 0) (parse_block v f.n 15 (parse_value v f.n 15) tables count 1))
+  unfolding with_tabs verdict_of
+  root_6 i k q =
+      let m = block_missing c f.nc f.tables ss v 1 tables i k (let h = w.few_tables in omega arith) q in
+      ap (λ (z : ℕ). refusal z k) m.0 ∙ sym (by_tables ∙ rw m.1)
 
-    pub root_place : not o.fine ≡ true → o.place < 65536
-    root_place z = let h = missing_first cat v 1 tables o.place (block_missing ss tabs o q (not_true o.fine z)) in let k = w.few_tables in omega arith
+  module _ (own : Scope) (q : fine own ≡ opened_by ss (tables_named (tables_from c f.nc f.nc 0) (names_at v 1 tables))) where
+    pub there : BlockOpened c f.nc (tables_named (tables_from c f.nc f.nc 0) (names_at v 1 tables)) own
+    there = block_opened c f.nc f.tables ss v 1 tables own w.lent.starts w.lent.cat_few (w.some_tables, w.few_tables) q
 
-    module _ (z : not o.fine ≡ false) where
-      pub there : BlockOpened c f.nc (tables_named (tables_from c f.nc f.nc 0) (names_at v 1 tables)) o.scope
-      there = block_opened c f.nc f.tables ss v 1 tables o w.lent.starts w.lent.cat_few (w.some_tables, w.few_tables) q (not_false o.fine z)
+    abbrev t : List Scope
+    t = replicate 16 own
 
-      abbrev t : List Scope
-      t = replicate 16 o.scope
+    root_narrow : (j : ℕ) → j < 1 → Narrow (type_in (get_or (replicate 16 own) j blank))
+    root_narrow zero l = narrow_entry own there.untyped
+    root_narrow (suc j) l = absurd (omega arith)
 
-      root_narrow : (j : ℕ) → j < 1 → Narrow (type_in (get_or (replicate 16 o.scope) j blank))
-      root_narrow zero l = narrow_entry o.scope there.untyped
-      root_narrow (suc j) l = absurd (omega arith)
+    pub root_ready : Ready c ss v f (replicate 16 own) 1 15 (1 + tables)
+    root_ready = record { lent = w.lent; sized = refl; not_many = omega arith; is_read = was_read parts.first; here = where_here; left = omega arith; narrow = root_narrow }
 
-      pub root_ready : Ready c ss v f (replicate 16 o.scope) 1 15 (1 + tables)
-      root_ready = record { lent = w.lent; sized = refl; not_many = omega arith; is_read = was_read parts.first; here = where_here; left = omega arith; narrow = root_narrow }
+    root_scopes : scopes_of c f.nc (replicate 16 own) 1 ≡ opened (refs_of tabs) ∷ []
+    unfolding scopes_of
+    root_scopes = ap (λ (s : Open). s ∷ []) there.opens
 
-      root_scopes : scopes_of c f.nc (replicate 16 o.scope) 1 ≡ opened (refs_of tabs) ∷ []
-      unfolding scopes_of
-      root_scopes = ap (λ (s : Open). s ∷ []) there.opens
+    pub root_infos : infos_of (replicate 16 own) 1 ≡ Fixed 0 ∷ []
+    unfolding infos_of
+    root_infos = ap (λ (i : Info). i ∷ []) there.known
 
-      pub root_infos : infos_of (replicate 16 o.scope) 1 ≡ Fixed 0 ∷ []
-      unfolding infos_of
-      root_infos = ap (λ (i : Info). i ∷ []) there.known
+    abbrev outs : Outs
+    outs = resolve_all (tables_from c f.nc f.nc 0) (scopes_of c f.nc (replicate 16 own) 1) w.is_read.tree.values
 
-      abbrev outs : Outs
-      outs = resolve_all (tables_from c f.nc f.nc 0) (scopes_of c f.nc (replicate 16 o.scope) 1) w.is_read.tree.values
+    -- what the root resolves to, by its parts
+    pub out_parts : resolved_by (tables_from c f.nc f.nc 0) (parse_block v f.n 15 (parse_value v f.n 15) tables count 1)
+        ≡ with_test (refs_of (tables_named (tables_from c f.nc f.nc 0) (names_at v 1 tables)))
+        (resolve (tables_from c f.nc f.nc 0) (scopes_of c f.nc (replicate 16 own) 1) w.is_read.tree.test)
+        (resolve_all (tables_from c f.nc f.nc 0) (scopes_of c f.nc (replicate 16 own) 1) w.is_read.tree.values)
+    unfolding with_tabs
+    out_parts =
+        out_tables ∙ ap (with_tabs cat b) there.found
+        ∙ ap (λ (Γ : List Open). with_test (refs_of tabs) (resolve cat Γ b.test) (resolve_all cat Γ b.values)) (sym root_scopes)
 
-      -- what the root resolves to, by its parts
-      pub out_parts : resolved_by (tables_from c f.nc f.nc 0) (parse_block v f.n 15 (parse_value v f.n 15) tables count 1)
-          ≡ with_test (refs_of (tables_named (tables_from c f.nc f.nc 0) (names_at v 1 tables)))
-          (resolve (tables_from c f.nc f.nc 0) (scopes_of c f.nc (replicate 16 o.scope) 1) w.is_read.tree.test)
-          (resolve_all (tables_from c f.nc f.nc 0) (scopes_of c f.nc (replicate 16 o.scope) 1) w.is_read.tree.values)
-      unfolding with_tabs
-      out_parts =
-          out_tables ∙ ap (with_tabs cat b) there.found
-          ∙ ap (λ (Γ : List Open). with_test (refs_of tabs) (resolve cat Γ b.test) (resolve_all cat Γ b.values)) (sym root_scopes)
+    by_parts : root_answer ≡ verdict_of f.k (with_test (refs_of tabs) (resolve cat (scopes_of c f.nc (replicate 16 own) 1) b.test) outs)
+    by_parts = ap (verdict_of f.k) out_parts
 
-      by_parts : root_answer ≡ verdict_of f.k (with_test (refs_of tabs) (resolve cat (scopes_of c f.nc (replicate 16 o.scope) 1) b.test) outs)
-      by_parts = ap (verdict_of f.k) out_parts
+    module _ (l : Checked Known) (a : l ≡ answer_at c v f (replicate 16 own) 1 15 (1 + tables)) where
+      pub root_refused : (i k : ℕ) → l ≡ refusal i k → refusal i k
+          ≡ verdict_of f.k (resolved_by (tables_from c f.nc f.nc 0) (parse_block v f.n 15 (parse_value v f.n 15) tables count 1))
+      root_refused i k g =
+          sym (by_parts ∙ test_bad f.k _ _ _ i k (typed_refused f.k cat _ (infos_of t 1) _ b.test parts.mid i k parts.first (sym a ∙ g)))
 
-      module _ (l : Checked Known) (a : l ≡ answer_at c v f (replicate 16 o.scope) 1 15 (1 + tables)) where
-        pub root_refused : (i k : ℕ) → l ≡ refusal i k → refusal i k
-            ≡ verdict_of f.k (resolved_by (tables_from c f.nc f.nc 0) (parse_block v f.n 15 (parse_value v f.n 15) tables count 1))
-        root_refused i k g =
-            sym (by_parts ∙ test_bad f.k _ _ _ i k (typed_refused f.k cat _ (infos_of t 1) _ b.test parts.mid i k parts.first (sym a ∙ g)))
+      module _ (x : Known) (g : l ≡ fine x) where
+        known : GoodAt f.k cat (scopes_of c f.nc t 1) (infos_of t 1) b.test parts.mid x
+        known = typed_known f.k cat _ (infos_of t 1) _ b.test parts.mid x parts.first (sym a ∙ g)
 
-        module _ (x : Known) (g : l ≡ fine x) where
-          known : GoodAt f.k cat (scopes_of c f.nc t 1) (infos_of t 1) b.test parts.mid x
-          known = typed_known f.k cat _ (infos_of t 1) _ b.test parts.mid x parts.first (sym a ∙ g)
+        type_is : x.ty ≡ known.t
+        unfolding known_of
+        type_is = ap (λ (h : Known). h.ty) known.known
 
-          type_is : x.ty ≡ known.t
-          unfolding known_of
-          type_is = ap (λ (h : Known). h.ty) known.known
+        pub values_at : many (parse_value v f.n 15) count x.next ≡ ok b.values w.is_read.end
+        values_at = rw (after f.k cat _ (infos_of t 1) _ parts.first (sym a ∙ g)) at parts.rest
 
-          pub values_at : many (parse_value v f.n 15) count x.next ≡ ok b.values w.is_read.end
-          values_at = rw (after f.k cat _ (infos_of t 1) _ parts.first (sym a ∙ g)) at parts.rest
+        pub values_ready : Several c ss v f (replicate 16 own) count x.next
+        values_ready = record { lent = w.lent; sized = refl; is_read = was_read values_at; narrow = root_narrow }
 
-          pub values_ready : Several c ss v f (replicate 16 o.scope) count x.next
-          values_ready = record { lent = w.lent; sized = refl; is_read = was_read values_at; narrow = root_narrow }
+        module _ (r : Checked ℕ) (h : r ≡ verdict_all f.k (infos_of (replicate 16 own) 1) (resolved_all (tables_from c f.nc f.nc 0) (scopes_of c f.nc (replicate 16 own) 1) (many (parse_value v f.n 15) count x.next))) where
+          outs_are : r ≡ verdict_all f.k (infos_of (replicate 16 own) 1) outs
+          unfolding resolved_all
+          outs_are = h ∙ rw values_at
 
-          module _ (r : Checked ℕ) (h : r ≡ verdict_all f.k (infos_of (replicate 16 o.scope) 1) (resolved_all (tables_from c f.nc f.nc 0) (scopes_of c f.nc (replicate 16 o.scope) 1) (many (parse_value v f.n 15) count x.next))) where
-            outs_are : r ≡ verdict_all f.k (infos_of (replicate 16 o.scope) 1) outs
-            unfolding resolved_all
-            outs_are = h ∙ rw values_at
+          pub values_refused : (i k : ℕ) → r ≡ refusal i k → refusal i k
+              ≡ verdict_of f.k (resolved_by (tables_from c f.nc f.nc 0) (parse_block v f.n 15 (parse_value v f.n 15) tables count 1))
+          values_refused i k j = sym (by_parts ∙ values_bad f.k (infos_of t 1) _ _ outs known.x known.t i k known.resolved (sym outs_are ∙ j))
 
-            pub values_refused : (i k : ℕ) → r ≡ refusal i k → refusal i k
+          module _ (n : ℕ) (j : r ≡ fine n) (other : Bool) (m : other ≡ not (type_eqb x.ty T.Boolean)) where
+            judged : root_answer ≡ cond (eqb (kind_of known.t) 1) (fine_by x n) (refusal 9 0)
+            judged =
+                by_parts
+                ∙ where_judged f.k parts.mid (infos_of t 1) _ _ outs known.x known.t n root_infos known.resolved (sym outs_are ∙ j)
+                ∙ ap (λ (y : Known). cond (eqb (kind_of known.t) 1) (fine_by y n) (refusal 9 0)) (sym known.known)
+
+            pub root_fine : other ≡ false → fine (record { info = x.info; values = x.values; classes = x.classes; pairs = n })
                 ≡ verdict_of f.k (resolved_by (tables_from c f.nc f.nc 0) (parse_block v f.n 15 (parse_value v f.n 15) tables count 1))
-            values_refused i k j = sym (by_parts ∙ values_bad f.k (infos_of t 1) _ _ outs known.x known.t i k known.resolved (sym outs_are ∙ j))
+            root_fine e = sym (judged ∙ rw (boolean_eq known.t, ← type_is, not_false (type_eqb x.ty T.Boolean) (sym m ∙ e)))
 
-            module _ (n : ℕ) (j : r ≡ fine n) (kind : ℕ) (m : kind ≡ kind_of x.ty) where
-              judged : root_answer ≡ cond (eqb (kind_of known.t) 1) (fine_by x n) (refusal 9 0)
-              judged =
-                  by_parts
-                  ∙ where_judged f.k parts.mid (infos_of t 1) _ _ outs known.x known.t n root_infos known.resolved (sym outs_are ∙ j)
-                  ∙ ap (λ (y : Known). cond (eqb (kind_of known.t) 1) (fine_by y n) (refusal 9 0)) (sym known.known)
-
-              kind_is : kind ≡ kind_of known.t
-              kind_is = m ∙ ap kind_of type_is
-
-              pub root_fine : kind ≡ 1 → fine (record { info = x.info; values = x.values; classes = x.classes; pairs = n })
-                  ≡ verdict_of f.k (resolved_by (tables_from c f.nc f.nc 0) (parse_block v f.n 15 (parse_value v f.n 15) tables count 1))
-              root_fine e = sym (judged ∙ rw (eq-eqb (kind_of known.t) 1 (sym kind_is ∙ e)))
-
-              pub root_9 : (kind ≡ 1 → ⊥) → refusal 9 0
-                  ≡ verdict_of f.k (resolved_by (tables_from c f.nc f.nc 0) (parse_block v f.n 15 (parse_value v f.n 15) tables count 1))
-              root_9 e = sym (judged ∙ rw (ne_eqb (kind_of known.t) 1 (λ d. e (kind_is ∙ d))))
+            pub root_9 : other ≡ true → refusal 9 0
+                ≡ verdict_of f.k (resolved_by (tables_from c f.nc f.nc 0) (parse_block v f.n 15 (parse_value v f.n 15) tables count 1))
+            root_9 e = sym (judged ∙ rw (boolean_eq known.t, ← type_is, not_true (type_eqb x.ty T.Boolean) (sym m ∙ e)))
 
 -- THE WHOLE VIEW
 -- SELECT's variant is none of the others

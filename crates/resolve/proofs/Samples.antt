@@ -7,7 +7,7 @@ use lib.ListN.{length}
 use Rattle.word.specs.Bytes.{signed32, le16}
 use Rattle.word.specs.Header.{drq, drc, headed, header, count_at}
 use Rattle.word.specs.Record.{rec_at, rec_bytes}
-use Rattle.word.specs.Refusal.{Checked, fine}
+use Rattle.word.specs.Refusal.{Checked, fine, refusal}
 use Rattle.class.specs.Class.{level, mark, lub_of}
 use Rattle.class.specs.Info.{info_by, bound_of, join_i, joins_i, same_i, choice_i}
 use Rattle.class.specs.declared.Info.{Info}
@@ -26,6 +26,8 @@ use Rattle.resolve.specs.Infos.{join_all_i, block_i, class_info}
 use Rattle.resolve.specs.Sizes.{size_d, sized_i, join_w, joins_w, join_all_w, choice_w, bind_size, let_w, rows_w, block_w, weigh, pairs_size, sums_of}
 use Rattle.resolve.specs.Typed.{known_of, typed_at, typed_by}
 use Rattle.resolve.specs.Claims.{resolved_by, verdict_of}
+use Rattle.resolve.specs.declared.Known.{Known}
+use Rattle.resolve.specs.declared.Sums.{Sums}
 
 -- the bytes of records
 bytes : List (List ℕ) → List ℕ

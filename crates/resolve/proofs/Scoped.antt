@@ -7,7 +7,10 @@ use mathlib.Core.List.{List, [], ◌∷◌, map}
 use native.Mathlib.Omega.{arith}
 use lib.ListN.{length, get_or, set, length-set}
 use lib.Seq.{set-set, set-get_or}
-use Rattle.word.specs.Refusal.{Checked, fine, refusal}
+use Rattle.std.specs.Prelude.{Result, Ok, Err}
+use Rattle.std.specs.Result.{IsErrAnd}
+use Rattle.word.specs.Refusal.{Checked, fine, refusal, said, number_of}
+use Rattle.word.specs.declared.refusal.Refusal.{Refusal}
 use Rattle.class.specs.declared.Info.TheVariants.{Fixed}
 use Rattle.cell.specs.Res.{Res, stuck, done}
 use Rattle.catalogue.specs.Tables.{Table, TabRef, table_named, tables_from}
@@ -25,10 +28,8 @@ use Rattle.view.proofs.Says.{exists_few, single_few}
 use Rattle.scope.specs.Scopes.{local}
 use Rattle.scope.specs.Table.{open_of, scopes_of, infos_of}
 use Rattle.scope.specs.Blocks.{Tabs, all, missing, before, found_at, tables_named, refs_of, opened}
-use Rattle.scope.specs.Words.{type_in}
-use Rattle.scope.specs.Entry.{local_scope, opened_by, tables_in}
+use Rattle.scope.specs.Entry.{local_scope, opened_by, tables_in, type_in}
 use Rattle.scope.specs.declared.Scope.{Scope}
-use Rattle.scope.specs.declared.Opened.{Opened}
 use Rattle.scope.proofs.Pushes as push
 use Rattle.scope.proofs.Named.{BlockOpened, block_missing, block_opened, names_length}
 use Rattle.resolve.specs.Typed.{known_of, typed_by}
@@ -61,23 +62,14 @@ pub single_node : (v : List ℕ) (at a : ℕ) (q : Pick) (nd : Node) → nd ≡ 
 unfolding block_node
 single_node v at a q nd e g = sym e ∙ g
 
--- the table's word at the scope that was opened, put back
-pub closed : (h₀ h₁ : List ℕ) (d w : ℕ) → h₁ ≡ set h₀ d w → set h₁ d (get_or h₀ d 0) ≡ h₀
-closed h₀ h₁ d w e = ap (λ (l : List ℕ). set l d (get_or h₀ d 0)) e ∙ set-set h₀ d w (get_or h₀ d 0) ∙ set-get_or h₀ d 0
+-- an entry at the scope that was opened, put back
+pub closed : {A : Type 0} (h₀ h₁ : List A) (d : ℕ) (w x : A) → h₁ ≡ set h₀ d w → set h₁ d (get_or h₀ d x) ≡ h₀
+closed h₀ h₁ d w x e = ap (λ (l : List _). set l d (get_or h₀ d x)) e ∙ set-set h₀ d w (get_or h₀ d x) ∙ set-get_or h₀ d x
 
-pub also : {A B C : Type 0} → A × B → C → A × (B × C)
-also p c = (p.0, (p.1, c))
-
--- the first table that is missing is one of those named
-pub missing_first : (cat : List Table) (v : List ℕ) (at count p : ℕ) → tables_named cat (names_at v at count) ≡ missing p → p < at + count
-unfolding tables_named names_at found_at before
-missing_first cat v at zero p e = absurd (let z : ◌≡◌ {A = ℕ} 0 1 = cc in omega arith)
-missing_first cat v at (suc count) p e = go (table_named (name_of (node_at v at)) cat) (tables_named cat (names_at v (at + 1) count)) (missing_first cat v (at + 1) count p) e
-  where
-    go : (x : Res TabRef) (r : Tabs) → (r ≡ missing p → p < at + 1 + count) → found_at at x r ≡ missing p → p < at + suc count
-    go stuck r h k = let z : at ≡ p = cc in omega arith
-    go (done t) (all ts) h k = absurd (let z : ◌≡◌ {A = ℕ} 0 1 = cc in omega arith)
-    go (done t) (missing q) h k = let l = h k in omega arith
+-- what `?` returns says what the refusal says
+pub passed : {A : Type 0} (e : Refusal) (r : Result A Refusal) → IsErrAnd r (λ y. y ≡ e) → said r ≡ refusal (number_of e.reason) e.place
+passed e (Ok x) h = absurd h
+passed e (Err y) h = ap (λ (z : Refusal). refusal (number_of z.reason) z.place) h
 
 module _ (c ss v : List ℕ) (f : Files) where
   abbrev cat : List Table
@@ -181,84 +173,80 @@ module _ (c ss v : List ℕ) (f : Files) where
     pub single_two : (q : Pick) → asked ≡ ask.Values q → Two (parse_value v f.n (d - 1)) (at + 1 + count) (parse_value v f.n d at) (ast.Exp.single at q (names_at v (at + 1) count))
     single_two q e = read.single_read v f.n d at w.is_read refl (single_here q e)
 
-    module _ (o : Opened) (p : o ≡ opened_by ss (tables_named (tables_from c f.nc f.nc 0) (names_at v (at + 1) count))) where
-      -- the place of a missing table fits 16 bits
-      pub block_place : not o.fine ≡ true → o.place < 65536
-      block_place z = let h = missing_first cat v (at + 1) count o.place (block_missing ss tabs o p (not_true o.fine z)) in let k = block_next in omega arith
+    -- a table that is missing
+    pub block_6 : (i k : ℕ) → refusal i k ≡ opened_by ss (tables_named (tables_from c f.nc f.nc 0) (names_at v (at + 1) count)) → refusal i k ≡ answer_at c v f t deep d at
+    block_6 i k p = ap (λ (z : ℕ). refusal z k) m.0 ∙ go asked refl
+      where
+        m : (i ≡ 6) × (tables_named (tables_from c f.nc f.nc 0) (names_at v (at + 1) count) ≡ missing k)
+        m = block_missing c f.nc f.tables ss v (at + 1) count i k (let h = block_next in omega arith) p
 
-      pub block_6 : not o.fine ≡ true → refusal 6 o.place ≡ answer_at c v f t deep d at
-      block_6 z = go asked refl
-        where
-          gone : tabs ≡ missing o.place
-          gone = block_missing ss tabs o p (not_true o.fine z)
+        go : (b : Asked) → asked ≡ b → refusal 6 k ≡ answer_at c v f t deep d at
+        go (ask.Rows q) e = sym (exists_missing f.k cat _ _ _ at _ (at + 1 + count) _ q k (exists_one q e) m.1)
+        go (ask.Values q) e = sym (single_missing f.k cat _ _ _ at _ (at + 1 + count) _ q k (single_two q e) m.1)
 
-          go : (b : Asked) → asked ≡ b → refusal 6 o.place ≡ answer_at c v f t deep d at
-          go (ask.Rows q) e = sym (exists_missing f.k cat _ _ _ at _ (at + 1 + count) _ q o.place (exists_one q e) gone)
-          go (ask.Values q) e = sym (single_missing f.k cat _ _ _ at _ (at + 1 + count) _ q o.place (single_two q e) gone)
+    module _ (own : Scope) (p : fine own ≡ opened_by ss (tables_named (tables_from c f.nc f.nc 0) (names_at v (at + 1) count))) where
+      pub there : BlockOpened c f.nc (tables_named (tables_from c f.nc f.nc 0) (names_at v (at + 1) count)) own
+      there = block_opened c f.nc f.tables ss v (at + 1) count own w.lent.starts w.lent.cat_few (few asked refl) p
 
-      module _ (z : not o.fine ≡ false) where
-        pub there : BlockOpened c f.nc (tables_named (tables_from c f.nc f.nc 0) (names_at v (at + 1) count)) o.scope
-        there = block_opened c f.nc f.tables ss v (at + 1) count o w.lent.starts w.lent.cat_few (few asked refl) p (not_false o.fine z)
+      pub block_opening : Opening c f.nc own
+      block_opening =
+          let h = names_length cat v (at + 1) count (refs_of tabs) there.found in
+          let k = (few asked refl).0 in
+          record { long = w.lent.cat_long; among = there.among; some = rw (there.counted, h) k }
 
-        pub block_opening : Opening c f.nc o.scope
-        block_opening =
-            let h = names_length cat v (at + 1) count (refs_of tabs) there.found in
-            let k = (few asked refl).0 in
-            record { long = w.lent.cat_long; among = there.among; some = rw (there.counted, h) k }
+      pub block_tabled : Tabled c f.nc ss f.tables v (at + 1) count
+      block_tabled = record { cat_long = w.lent.cat_long; starts = w.lent.starts; view_long = block_room; few = block_few; found = there.found }
 
-        pub block_tabled : Tabled c f.nc ss f.tables v (at + 1) count
-        block_tabled = record { cat_long = w.lent.cat_long; starts = w.lent.starts; view_long = block_room; few = block_few; found = there.found }
+      module _ (u : List Scope) (q : u ≡ set t deep own) where
+        pub where_ready : Ready c ss v f u (deep + 1) (d - 1) (at + 1 + count)
+        where_ready = inner t deep d at w own u q (at + 1 + count) (where_read asked refl) (narrow_entry own there.untyped)
 
-        module _ (u : List Scope) (q : u ≡ set t deep o.scope) where
-          pub where_ready : Ready c ss v f u (deep + 1) (d - 1) (at + 1 + count)
-          where_ready = inner t deep d at w o.scope u q (at + 1 + count) (where_read asked refl) (narrow_entry o.scope there.untyped)
+        pub block_scopes : scopes_of c f.nc u (deep + 1) ≡ opened (refs_of tabs) ∷ scopes_of c f.nc t deep
+        block_scopes = push.block_scopes c f.nc t u deep own q (push_room t deep d at w) w.sized tabs there
 
-          pub block_scopes : scopes_of c f.nc u (deep + 1) ≡ opened (refs_of tabs) ∷ scopes_of c f.nc t deep
-          block_scopes = push.block_scopes c f.nc t u deep o.scope q (push_room t deep d at w) w.sized tabs there
+        block_infos : infos_of u (deep + 1) ≡ Fixed 0 ∷ infos_of t deep
+        block_infos = push.block_infos c f.nc t u deep own q (push_room t deep d at w) w.sized tabs there
 
-          block_infos : infos_of u (deep + 1) ≡ Fixed 0 ∷ infos_of t deep
-          block_infos = push.block_infos c f.nc t u deep o.scope q (push_room t deep d at w) w.sized tabs there
+        own_tables : tables_in (open_of c f.nc own) ≡ map (λ r. r.table) (refs_of tabs)
+        unfolding tables_in
+        own_tables = ap tables_in there.opens
 
-          own_tables : tables_in (open_of c f.nc o.scope) ≡ map (λ r. r.table) (refs_of tabs)
-          unfolding tables_in
-          own_tables = ap tables_in there.opens
+        exists_whole : (h : Fold) → asked ≡ ask.Rows h → answer_at c v f t deep d at ≡ then_t (answer_at c v f u (deep + 1) (d - 1) (at + 1 + count)) (exists_t at h (refs_of tabs))
+        exists_whole h e = exists_step f.k cat _ _ _ at _ (at + 1 + count) _ h (refs_of tabs) (exists_one h e) there.found ∙ rw (← block_scopes, ← block_infos)
 
-          exists_whole : (h : Fold) → asked ≡ ask.Rows h → answer_at c v f t deep d at ≡ then_t (answer_at c v f u (deep + 1) (d - 1) (at + 1 + count)) (exists_t at h (refs_of tabs))
-          exists_whole h e = exists_step f.k cat _ _ _ at _ (at + 1 + count) _ h (refs_of tabs) (exists_one h e) there.found ∙ rw (← block_scopes, ← block_infos)
+        single_whole : (h : Pick) → asked ≡ ask.Values h
+            → answer_at c v f t deep d at ≡ then_t (answer_at c v f u (deep + 1) (d - 1) (at + 1 + count)) (λ x. then_t (answer_at c v f u (deep + 1) (d - 1) x.next) (single_t at h (refs_of tabs) x))
+        single_whole h e = single_step f.k cat _ _ _ at _ (at + 1 + count) _ h (refs_of tabs) (single_two h e) there.found ∙ rw (← block_scopes, ← block_infos)
 
-          single_whole : (h : Pick) → asked ≡ ask.Values h
-              → answer_at c v f t deep d at ≡ then_t (answer_at c v f u (deep + 1) (d - 1) (at + 1 + count)) (λ x. then_t (answer_at c v f u (deep + 1) (d - 1) x.next) (single_t at h (refs_of tabs) x))
-          single_whole h e = single_step f.k cat _ _ _ at _ (at + 1 + count) _ h (refs_of tabs) (single_two h e) there.found ∙ rw (← block_scopes, ← block_infos)
+        module _ (l : Checked Known) (a : l ≡ answer_at c v f u (deep + 1) (d - 1) (at + 1 + count)) where
+          pub where_refused : (i k : ℕ) → l ≡ refusal i k → refusal i k ≡ answer_at c v f t deep d at
+          where_refused i k b = go asked refl
+            where
+              go : (s : Asked) → asked ≡ s → refusal i k ≡ answer_at c v f t deep d at
+              go (ask.Rows h) e = sym (exists_whole h e ∙ then_refused _ i k _ (sym a ∙ b))
+              go (ask.Values h) e = sym (single_whole h e ∙ then_refused _ i k _ (sym a ∙ b))
 
-          module _ (l : Checked Known) (a : l ≡ answer_at c v f u (deep + 1) (d - 1) (at + 1 + count)) where
-            pub where_refused : (i k : ℕ) → l ≡ refusal i k → refusal i k ≡ answer_at c v f t deep d at
-            where_refused i k b = go asked refl
-              where
-                go : (s : Asked) → asked ≡ s → refusal i k ≡ answer_at c v f t deep d at
-                go (ask.Rows h) e = sym (exists_whole h e ∙ then_refused _ i k _ (sym a ∙ b))
-                go (ask.Values h) e = sym (single_whole h e ∙ then_refused _ i k _ (sym a ∙ b))
+          module _ (x : Known) (b : l ≡ fine x) where
+            pub exists_done : (j : Fold) (r : Checked Known) → asked ≡ ask.Rows j → r ≡ exists_t at j (refs_to (tables_in (open_of c f.nc own))) x → r ≡ answer_at c v f t deep d at
+            exists_done j r e h =
+                h ∙ ap (λ (us : List Table). exists_t at j (refs_to us) x) own_tables ∙ sym (own_exists (refs_of tabs) at j x)
+                ∙ sym (exists_whole j e ∙ then_is _ x _ (sym a ∙ b))
 
-            module _ (x : Known) (b : l ≡ fine x) where
-              pub exists_done : (j : Fold) (r : Checked Known) → asked ≡ ask.Rows j → r ≡ exists_t at j (refs_to (tables_in (open_of c f.nc o.scope))) x → r ≡ answer_at c v f t deep d at
-              exists_done j r e h =
-                  h ∙ ap (λ (us : List Table). exists_t at j (refs_to us) x) own_tables ∙ sym (own_exists (refs_of tabs) at j x)
-                  ∙ sym (exists_whole j e ∙ then_is _ x _ (sym a ∙ b))
+            module _ (pick : Pick) (e : asked ≡ ask.Values pick) where
+              pub value_ready : Ready c ss v f u (deep + 1) (d - 1) x.next
+              value_ready =
+                  inner t deep d at w own u q x.next
+                  (rw (after f.k cat (scopes_of c f.nc u (deep + 1)) (infos_of u (deep + 1)) _ (single_two pick e).first (sym a ∙ b)) at (was_read (single_two pick e).second))
+                  (narrow_entry own there.untyped)
 
-              module _ (pick : Pick) (e : asked ≡ ask.Values pick) where
-                pub value_ready : Ready c ss v f u (deep + 1) (d - 1) x.next
-                value_ready =
-                    inner t deep d at w o.scope u q x.next
-                    (rw (after f.k cat (scopes_of c f.nc u (deep + 1)) (infos_of u (deep + 1)) _ (single_two pick e).first (sym a ∙ b)) at (was_read (single_two pick e).second))
-                    (narrow_entry o.scope there.untyped)
+              value_whole : answer_at c v f t deep d at ≡ then_t (answer_at c v f u (deep + 1) (d - 1) x.next) (single_t at pick (refs_of tabs) x)
+              value_whole = single_whole pick e ∙ then_is _ x _ (sym a ∙ b)
 
-                value_whole : answer_at c v f t deep d at ≡ then_t (answer_at c v f u (deep + 1) (d - 1) x.next) (single_t at pick (refs_of tabs) x)
-                value_whole = single_whole pick e ∙ then_is _ x _ (sym a ∙ b)
+              module _ (r : Checked Known) (h : r ≡ answer_at c v f u (deep + 1) (d - 1) x.next) where
+                pub value_refused : (i k : ℕ) → r ≡ refusal i k → refusal i k ≡ answer_at c v f t deep d at
+                value_refused i k j = sym (value_whole ∙ then_refused _ i k _ (sym h ∙ j))
 
-                module _ (r : Checked Known) (h : r ≡ answer_at c v f u (deep + 1) (d - 1) x.next) where
-                  pub value_refused : (i k : ℕ) → r ≡ refusal i k → refusal i k ≡ answer_at c v f t deep d at
-                  value_refused i k j = sym (value_whole ∙ then_refused _ i k _ (sym h ∙ j))
-
-                  pub single_done : (y : Known) (s : Checked Known) → r ≡ fine y → s ≡ single_t at pick (refs_to (tables_in (open_of c f.nc o.scope))) x y → s ≡ answer_at c v f t deep d at
-                  single_done y s j m =
-                      m ∙ ap (λ (us : List Table). single_t at pick (refs_to us) x y) own_tables ∙ sym (own_single (refs_of tabs) at pick x y)
-                      ∙ sym (value_whole ∙ then_is _ y _ (sym h ∙ j))
+                pub single_done : (y : Known) (s : Checked Known) → r ≡ fine y → s ≡ single_t at pick (refs_to (tables_in (open_of c f.nc own))) x y → s ≡ answer_at c v f t deep d at
+                single_done y s j m =
+                    m ∙ ap (λ (us : List Table). single_t at pick (refs_to us) x y) own_tables ∙ sym (own_single (refs_of tabs) at pick x y)
+                    ∙ sym (value_whole ∙ then_is _ y _ (sym h ∙ j))

@@ -21,11 +21,10 @@ use Rattle.cell.specs.declared.Judged.TheVariants as J
 use Rattle.catalogue.specs.Tables.{Table, TabRef}
 use Rattle.view.specs.declared.Fold.{Fold}
 use Rattle.view.specs.declared.Pick.{Pick}
-use Rattle.scope.specs.Words.{count_in}
 use Rattle.scope.specs.Table.{tabs_at, open_of}
-use Rattle.scope.specs.Entry.{tables_in, rows_of, classes_of}
+use Rattle.scope.specs.Entry.{count_in, tables_in, rows_of, classes_of}
 use Rattle.scope.specs.declared.Scope.{Scope}
-use Rattle.scope.proofs.Block.{tables_in_lem}
+use Rattle.scope.proofs.Blocks.{tables_in_lem}
 use Rattle.resolve.specs.Totals.{fold_type, pick_type}
 use Rattle.resolve.specs.Infos.{table_class, join_all_i, block_i}
 use Rattle.resolve.specs.Sizes.{weighed, join_w, joins_w, join_all_w, choice_w, rows_w, block_w, capped}

@@ -2,6 +2,7 @@
 -- Assumes nothing.
 use Prim.Native.Nat.{ℕ, ◌+◌, ◌-◌, ◌<◌, ◌≤◌}
 use mathlib.Core.Path.{◌≡◌, sym, ap, ◌∙◌}
+use mathlib.Core.Logic.{◌⊎◌, inl, inr}
 use mathlib.Core.List.{List}
 use native.Mathlib.Omega.{arith}
 use lib.ListN.{length, get_or}
@@ -21,7 +22,7 @@ use Rattle.view.proofs.Read as read
 use Rattle.view.proofs.Read.{Two, Three, here_ok, was_read}
 use Rattle.scope.specs.Scopes.{Open, find}
 use Rattle.scope.specs.Table.{blank, scopes_of, infos_of, found_of}
-use Rattle.scope.specs.Words.{type_in}
+use Rattle.scope.specs.Entry.{type_in}
 use Rattle.scope.specs.declared.Scope.{Scope}
 use Rattle.scope.specs.declared.Found.{Found}
 use Rattle.resolve.specs.Typed.{known_of, typed_by}
@@ -77,11 +78,15 @@ module _ (c ss v : List ℕ) (f : Files) where
         j ∙ ap (class_t at) i ∙ sym (classof_step f.k _ _ _ (parse_value v f.n (d - 1)) at _ name q (read.classof_read v f.n d at w.is_read e g))
 
     -- no other node stands here
-    pub t_table : (name i p : ℕ) → nd ≡ Tab name → refusal i p ≡ answer_at c v f t deep d at
+    t_table : (name i p : ℕ) → nd ≡ Tab name → refusal i p ≡ answer_at c v f t deep d at
     t_table name i p g = absurd (read.no_table v f.n d at w.is_read e g)
 
-    pub t_select : (a b i p : ℕ) → nd ≡ Select a b → refusal i p ≡ answer_at c v f t deep d at
+    t_select : (a b i p : ℕ) → nd ≡ Select a b → refusal i p ≡ answer_at c v f t deep d at
     t_select a b i p g = absurd (read.no_select v f.n d at w.is_read e g)
+
+    pub t_none : (i p : ℕ) → ((x : ℕ) × (nd ≡ Tab x)) ⊎ ((x : ℕ) × (y : ℕ) × (nd ≡ Select x y)) → refusal i p ≡ answer_at c v f t deep d at
+    t_none i p (inl h) = t_table h.0 i p h.1
+    t_none i p (inr h) = t_select h.0 h.1 i p h.2
 
     pub t_bad : (i p : ℕ) → nd ≡ Bad → refusal i p ≡ answer_at c v f t deep d at
     t_bad i p g = absurd (read.no_bad v f.n d at w.is_read e g)

@@ -9,14 +9,12 @@ use Rattle.catalogue.specs.Tables.{Table, tables_from}
 use Rattle.catalogue.specs.Starts.{StartsAre}
 use Rattle.view.specs.Ast.{Exp, Block, Parsed, ok, refused, WasRead}
 use Rattle.view.specs.Parse.{many, names_at, parse_block, parse_value, parse_view, check_of}
-use Rattle.view.specs.declared.Verdict.TheVariants as structure
 use Rattle.view.specs.declared.Node.{Node}
 use Rattle.view.specs.declared.Node.TheVariants.{Exists, Single}
 use Rattle.scope.specs.Scopes.{Open}
 use Rattle.scope.specs.Table.{blank, scopes_of, infos_of}
-use Rattle.scope.specs.Words.{count_in, type_in}
+use Rattle.scope.specs.Entry.{count_in, type_in, Among}
 use Rattle.scope.specs.Blocks.{all, refs_of, tables_named}
-use Rattle.scope.specs.Entry.{Among}
 use Rattle.scope.specs.declared.Scope.{Scope}
 use Rattle.resolve.specs.Resolve.{Outs, goods, bads, resolve_all, Resolved, select, refused as denied, resolve_view}
 use Rattle.resolve.specs.Sizes.{capped, pairs_size, sums_of}
@@ -99,7 +97,7 @@ pub record Accepted (c ss v : List ℕ) (f : Files) : Type 0 where
   pub cat_long : 8 + 8 * f.nc ≤ length c
   pub cat_few : f.nc ≤ 2080
   pub starts : StartsAre c f.nc f.tables ss
-  pub taken : check_of v ≡ structure.Records f.n
+  pub taken : check_of v ≡ fine f.n
 
 -- the root's block was read
 pub record Rooted (c ss v : List ℕ) (f : Files) (tables values : ℕ) : Type 0 where

@@ -72,7 +72,14 @@ fn single(s: scope::Scope, cat: &[u8], n: usize, t: cell::Type, x: Known, y: Kno
 
 /// EXISTS and COUNT at a record, of whose where x is known; 9 where that isn't boolean.
 #[tactic(auto, using(cell::proofs::Equal::equal_types), unfolding(crate::specs::Steps::exists_t, crate::specs::Steps::bool_t))]
-pub fn with_exists(s: scope::Scope, cat: &[u8], n: usize, at: u16, f: view::Fold, x: Known) -> Result<Known, Refusal>
+pub fn with_exists(
+    s: scope::Scope,
+    cat: &[u8],
+    n: usize,
+    at: u16,
+    f: view::Fold,
+    x: Known,
+) -> Result<Known, Refusal>
     requires { Opening cat.now n s }
     ensures { said result ≡ exists_t at f (refs_to (tables_in (open_of cat.now n s))) x }
 {
@@ -136,5 +143,8 @@ pub fn single_info(
     ensures { result ≡ block_i (refs_to (tables_in (open_of cat.now n s))) (x ∷ choice_i y (Fixed 0) ∷ []) }
 {
     let choice = y.choose(class::Info::Fixed(0));
-    agg_info(rows(s, cat, n).info.join(x).join(choice), scope::block_class(s, cat, n))
+    agg_info(
+        rows(s, cat, n).info.join(x).join(choice),
+        scope::block_class(s, cat, n),
+    )
 }

@@ -11,7 +11,6 @@ mod totals;
 ghost use Rattle.std.specs.Prelude.{◌≡◌, ◌+◌, ◌-◌, set};
 ghost use Rattle.word.specs.Refusal.{said};
 ghost use Rattle.view.specs.Record.{node_at};
-ghost use Rattle.scope.specs.Held.{entries_in};
 ghost use Rattle.resolve.specs.Notes.{NotedBy};
 ghost use Rattle.resolve.specs.Claims.{ReadyIn, tables_in, scopes_in, value_in, answer_in, block_node};
 
@@ -72,19 +71,19 @@ pub struct Sums {
     pub pairs: usize,
 }
 
-/// A value: names and types, with depth levels left, in the scopes that are open, whose entries `held` has as words; and a note for each of its records.
+/// A value: names and types, with depth levels left, in the scopes that are open, whose entries `held` has; and a note for each of its records.
 #[cycle(block_value_within)]
 pub fn value(
     source: &Source,
     at: usize,
     depth: usize,
-    held: &mut [u64; 16],
+    held: &mut [scope::Scope; 16],
     deep: usize,
     notes: &mut [u64; 1024],
 ) -> Result<Known, Refusal>
-    requires { ReadyIn source.now (entries_in held.old) deep depth at }
-    ensures value { said result ≡ answer_in source.now (entries_in held.old) deep depth at }
-    ensures noted_by { NotedBy (tables_in source.now) (scopes_in source.now (entries_in held.old) deep) (value_in source.now depth at) at notes.old notes.new }
+    requires { ReadyIn source.now held.old deep depth at }
+    ensures value { said result ≡ answer_in source.now held.old deep depth at }
+    ensures noted_by { NotedBy (tables_in source.now) (scopes_in source.now held.old deep) (value_in source.now depth at) at notes.old notes.new }
     ensures held_unchanged { held.new ≡ held.old }
 {
     let next = at + 1;
@@ -118,12 +117,12 @@ pub fn value(
             Ok(known)
         }
         view::Node::Col(name, table) => {
-            let found = scope::find_in(held, source.cat, source.files.nc, deep, name, table);
+            let found = scope::find(held, source.cat, source.files.nc, deep, name, table);
             notes::note(notes, at, notes::found_note(found));
             steps::column(at as u16, found)
         }
         view::Node::Classof(name, table) => {
-            let found = scope::find_in(held, source.cat, source.files.nc, deep, name, table);
+            let found = scope::find(held, source.cat, source.files.nc, deep, name, table);
             notes::note(notes, at, notes::found_note(found));
             steps::class_of(at as u16, found)
         }
@@ -178,18 +177,18 @@ fn within(
     source: &Source,
     at: usize,
     depth: usize,
-    held: &mut [u64; 16],
+    held: &mut [scope::Scope; 16],
     deep: usize,
     own: scope::Scope,
     notes: &mut [u64; 1024],
 ) -> Result<Known, Refusal>
-    requires { ReadyIn source.now (set (entries_in held.old) deep own) (deep + 1) depth at }
-    ensures value { said result ≡ answer_in source.now (set (entries_in held.old) deep own) (deep + 1) depth at }
-    ensures noted_by { NotedBy (tables_in source.now) (scopes_in source.now (set (entries_in held.old) deep own) (deep + 1)) (value_in source.now depth at) at notes.old notes.new }
+    requires { ReadyIn source.now (set held.old deep own) (deep + 1) depth at }
+    ensures value { said result ≡ answer_in source.now (set held.old deep own) (deep + 1) depth at }
+    ensures noted_by { NotedBy (tables_in source.now) (scopes_in source.now (set held.old deep own) (deep + 1)) (value_in source.now depth at) at notes.old notes.new }
     ensures held_unchanged { held.new ≡ held.old }
 {
     let outer = held[deep];
-    scope::push_in(held, deep, own);
+    scope::push(held, deep, own);
     let answer = value(source, at, depth, held, deep + 1, notes);
     held[deep] = outer;
     answer
@@ -201,22 +200,22 @@ fn block(
     source: &Source,
     at: usize,
     depth: usize,
-    held: &mut [u64; 16],
+    held: &mut [scope::Scope; 16],
     deep: usize,
     count: usize,
     asked: Asked,
     notes: &mut [u64; 1024],
 ) -> Result<Known, Refusal>
-    requires { ReadyIn source.now (entries_in held.old) deep depth at × (node_at source.now.view.now at ≡ block_node asked count) }
-    ensures value { said result ≡ answer_in source.now (entries_in held.old) deep depth at }
-    ensures noted_by { NotedBy (tables_in source.now) (scopes_in source.now (entries_in held.old) deep) (value_in source.now depth at) at notes.old notes.new }
+    requires { ReadyIn source.now held.old deep depth at × (node_at source.now.view.now at ≡ block_node asked count) }
+    ensures value { said result ≡ answer_in source.now held.old deep depth at }
+    ensures noted_by { NotedBy (tables_in source.now) (scopes_in source.now held.old deep) (value_in source.now depth at) at notes.old notes.new }
     ensures held_unchanged { held.new ≡ held.old }
 {
     let cat = source.cat;
     let nc = source.files.nc;
     let down = depth - 1;
     let next = at + 1;
-    let opened = scope::open_block(
+    let own = scope::open_block(
         cat,
         nc,
         source.starts,
@@ -224,14 +223,7 @@ fn block(
         source.view,
         next,
         count,
-    );
-    if !opened.fine {
-        return Err(Refusal {
-            reason: Reason::NoTable,
-            place: opened.place as u16,
-        });
-    }
-    let own = opened.scope;
+    )?;
     notes::note(notes, at, 0);
     notes::tables(source, next, count, notes);
     let test = within(source, next + count, down, held, deep, own, notes)?;

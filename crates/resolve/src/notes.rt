@@ -31,10 +31,13 @@ pub fn found_note(found: scope::Found) -> u64
     ensures { result ≡ found_note found }
 {
     match found {
-        scope::Found::Column(a, b, c, _, _, _) => {
-            u64::from(a) + 65536 * u64::from(b) + 4294967296 * u64::from(c)
-        }
-        scope::Found::Local(a, _, _) => 281474976710656 + u64::from(a),
+        scope::Found::Column {
+            outward,
+            table,
+            column,
+            ..
+        } => u64::from(outward) + 65536 * u64::from(table) + 4294967296 * u64::from(column),
+        scope::Found::Local { outward, .. } => 281474976710656 + u64::from(outward),
         _ => 0,
     }
 }
@@ -63,7 +66,7 @@ pub fn mark(notes: &mut [u64; 1024], at: usize, own: cell::Type, ty: cell::Type)
     }
 }
 
-/// The TABLE records of a block, from record `at` on: the tables' numbers.
+/// The TABLE records of a block, from record `at` on: the tables' numbers. All of the tables are in the catalogue.
 pub fn tables(source: &Source, at: usize, count: usize, notes: &mut [u64; 1024])
     requires tabled { Tabled source.now.cat.now source.now.files.nc source.now.starts.now source.now.files.tables source.now.view.now at count }
     requires count_bound { at + count ≤ 1024 }
@@ -79,6 +82,9 @@ pub fn tables(source: &Source, at: usize, count: usize, notes: &mut [u64; 1024])
             source.view,
             at + j,
         );
+        let Some(number) = number else {
+            return;
+        };
         note(notes, at + j, number as u64);
     }
 }

@@ -2,7 +2,6 @@
 // The walk over a value is `value`.
 ghost use Rattle.std.specs.Prelude.{◌≡◌};
 ghost use Rattle.word.specs.Refusal.{said};
-ghost use Rattle.scope.specs.Held.{entries_in};
 ghost use Rattle.scope.specs.Table.{infos_of};
 ghost use Rattle.resolve.specs.Notes.{NotedAll, NotedView, EndedAll, EndedView};
 ghost use Rattle.resolve.specs.Claims.{AcceptedIn, RootedIn, SeveralIn, values_in, root_in, view_in, verdict_of, verdict_all};
@@ -16,15 +15,15 @@ use word::{Reason, Refusal};
 fn values(
     source: &Source,
     at: usize,
-    held: &mut [u64; 16],
+    held: &mut [scope::Scope; 16],
     count: usize,
     notes: &mut [u64; 1024],
     ends: &mut [u64],
 ) -> Result<usize, Refusal>
-    requires { SeveralIn source.now (entries_in held.old) count at }
-    ensures value { said result ≡ verdict_all source.now.files.k (infos_of (entries_in held.old) 1) (values_in source.now (entries_in held.old) count at) }
-    ensures noted_all { NotedAll (values_in source.now (entries_in held.old) count at) at notes.old notes.new }
-    ensures ended_all { EndedAll source.now.files.k (infos_of (entries_in held.old) 1) (values_in source.now (entries_in held.old) count at) at 1 ends.old ends.new }
+    requires { SeveralIn source.now held.old count at }
+    ensures value { said result ≡ verdict_all source.now.files.k (infos_of held.old 1) (values_in source.now held.old count at) }
+    ensures noted_all { NotedAll (values_in source.now held.old count at) at notes.old notes.new }
+    ensures ended_all { EndedAll source.now.files.k (infos_of held.old 1) (values_in source.now held.old count at) at 1 ends.old ends.new }
     ensures held_unchanged { held.new ≡ held.old }
 {
     let mut next = at;
@@ -52,7 +51,7 @@ fn root(
     ensures ended_view { EndedView source.now.files.k (root_in source.now tables count) ends.old ends.new }
 {
     let files = source.files;
-    let opened = scope::open_block(
+    let own = scope::open_block(
         source.cat,
         files.nc,
         source.starts,
@@ -60,15 +59,8 @@ fn root(
         source.view,
         1,
         tables,
-    );
-    if !opened.fine {
-        return Err(Refusal {
-            reason: Reason::NoTable,
-            place: opened.place as u16,
-        });
-    }
-    let own = opened.scope;
-    let mut held = scope::words_of([own; 16]);
+    )?;
+    let mut held = [own; 16];
     let test = value(source, 1 + tables, 15, &mut held, 1, notes)?;
     leave(ends, 0, end_note(test));
     let first = usize::from(test.next);
@@ -85,11 +77,7 @@ fn root(
 }
 
 /// A whole view, whose structure was taken: its names and types, and how many records its parts take; its notes, and the ends of its where and of its values.
-pub fn whole(
-    source: &Source,
-    notes: &mut [u64; 1024],
-    ends: &mut [u64],
-) -> Result<Sums, Refusal>
+pub fn whole(source: &Source, notes: &mut [u64; 1024], ends: &mut [u64]) -> Result<Sums, Refusal>
     requires { AcceptedIn source.now }
     ensures value { said result ≡ verdict_of source.now.files.k (view_in source.now) }
     ensures noted_view { NotedView (view_in source.now) notes.old notes.new }
@@ -101,11 +89,5 @@ pub fn whole(
             place: 0,
         });
     };
-    root(
-        source,
-        usize::from(tables),
-        usize::from(count),
-        notes,
-        ends,
-    )
+    root(source, usize::from(tables), usize::from(count), notes, ends)
 }

@@ -44,7 +44,7 @@ pub fn wrong_type(at: u16) -> Refusal
 impl Weighed {
     /// A class whose tree takes n records; one where it is fixed.
     #[tactic(auto, unfolding(crate::specs::Steps::stopped, crate::specs::Sizes::sized_i))]
-    pub fn new(info: class::Info, n: u16) -> Self
+    pub(crate) fn new(info: class::Info, n: u16) -> Self
         ensures { result ≡ stopped (weighed info n) }
     {
         let size = match info {
@@ -56,7 +56,7 @@ impl Weighed {
 
     /// LUB of both, or one fixed class.
     #[tactic(auto, using(crate::proofs::Leaves::sizes))]
-    pub fn join(self, other: Self) -> Self
+    pub(crate) fn join(self, other: Self) -> Self
         ensures { result ≡ stopped (join_w self other) }
     {
         Weighed::new(
@@ -67,7 +67,7 @@ impl Weighed {
 
     /// A choice under a data tree of d records.
     #[tactic(auto, using(crate::proofs::Leaves::sizes))]
-    pub fn choose(self, d: u16, other: Self) -> Self
+    pub(crate) fn choose(self, d: u16, other: Self) -> Self
         ensures { result ≡ stopped (choice_w d self other) }
     {
         Weighed::new(
@@ -81,17 +81,14 @@ impl Weighed {
     fn bind(self, d: u16, body: Self) -> Self
         ensures { result ≡ stopped (let_w d self body) }
     {
-        Weighed::new(
-            body.info,
-            bind_size(self.info, self.size, d, body.size),
-        )
+        Weighed::new(body.info, bind_size(self.info, self.size, d, body.size))
     }
 }
 
 impl Known {
     /// A value of a type, before a record, whose data takes n records, with its class.
     #[tactic(auto, unfolding(crate::specs::Steps::known_by))]
-    pub fn new(ty: cell::Type, next: u16, n: u16, class: Weighed) -> Self
+    pub(crate) fn new(ty: cell::Type, next: u16, n: u16, class: Weighed) -> Self
         ensures { result ≡ known_by ty next n class }
     {
         Known {
@@ -105,7 +102,7 @@ impl Known {
 
     /// A constant or a reference.
     #[tactic(auto, using(crate::proofs::Leaves::knowns))]
-    pub fn leaf(ty: cell::Type, info: class::Info, next: u16) -> Self
+    pub(crate) fn leaf(ty: cell::Type, info: class::Info, next: u16) -> Self
         ensures { result ≡ leaf_k ty info next }
     {
         Known::new(ty, next, 1, Weighed::new(info, 1))
@@ -113,7 +110,7 @@ impl Known {
 
     /// What is known of the value's class.
     #[tactic(auto, unfolding(crate::specs::Steps::class_of))]
-    pub fn class(self) -> Weighed
+    pub(crate) fn class(self) -> Weighed
         ensures { result ≡ class_of self }
     {
         Weighed {
@@ -132,7 +129,7 @@ impl Known {
 
     /// BINOP at a record, of whose left operand this is known; 9 where it has no type.
     #[tactic(auto, using(cell::proofs::Options::options), unfolding(crate::specs::Steps::two_t, crate::specs::Steps::ruled_t))]
-    pub fn binop(self, at: u16, op: u8, right: Self) -> Result<Self, Refusal>
+    pub(crate) fn binop(self, at: u16, op: u8, right: Self) -> Result<Self, Refusal>
         ensures { said result ≡ two_t at op self right }
     {
         let Some(ty) = cell::Type::binop(op, self.ty, right.ty) else {
@@ -155,7 +152,7 @@ impl Known {
 
     /// NOT at a record; 9 where the operand isn't boolean.
     #[tactic(auto, using(cell::proofs::Equal::equal_types), unfolding(crate::specs::Steps::not_t, crate::specs::Steps::bool_t))]
-    pub fn not(self, at: u16) -> Result<Self, Refusal>
+    pub(crate) fn not(self, at: u16) -> Result<Self, Refusal>
         ensures { said result ≡ not_t at self }
     {
         if self.ty != cell::Type::Boolean {
@@ -188,7 +185,7 @@ impl Known {
 
     /// IF at a record, of whose condition this is known; 9 where that isn't boolean or the limbs have no type in common.
     #[tactic(auto, using(cell::proofs::Equal::equal_types, cell::proofs::Options::options), unfolding(crate::specs::Steps::if_t, crate::specs::Steps::bool_t, crate::specs::Steps::ruled_t))]
-    pub fn branch(self, at: u16, yes: Self, no: Self) -> Result<Self, Refusal>
+    pub(crate) fn branch(self, at: u16, yes: Self, no: Self) -> Result<Self, Refusal>
         ensures { said result ≡ if_t at self yes no }
     {
         if self.ty != cell::Type::Boolean {
@@ -202,7 +199,7 @@ impl Known {
 
     /// LET, of whose value this is known.
     #[tactic(auto, using(crate::proofs::Leaves::knowns))]
-    pub fn bind(self, body: Self) -> Self
+    pub(crate) fn bind(self, body: Self) -> Self
         ensures { result ≡ let_k self body }
     {
         let values = plus(1, plus(self.values, body.values));
@@ -218,8 +215,8 @@ pub fn column(at: u16, found: scope::Found) -> Result<Known, Refusal>
     ensures { said result ≡ col_t at found }
 {
     match found {
-        scope::Found::Column(_, _, _, ty, info, _) => Ok(Known::leaf(ty, info, at + 1)),
-        scope::Found::Local(_, ty, info) => Ok(Known::leaf(ty, info, at + 1)),
+        scope::Found::Column { ty, cell, .. } => Ok(Known::leaf(ty, cell, at + 1)),
+        scope::Found::Local { ty, info, .. } => Ok(Known::leaf(ty, info, at + 1)),
         scope::Found::None => Err(Refusal {
             reason: Reason::NoColumn,
             place: at,
@@ -238,10 +235,8 @@ pub fn class_of(at: u16, found: scope::Found) -> Result<Known, Refusal>
     ensures { said result ≡ class_t at found }
 {
     match found {
-        scope::Found::Column(_, _, _, _, _, row) => {
-            Ok(Known::leaf(cell::Type::Class, row, at + 1))
-        }
-        scope::Found::Local(_, _, _) | scope::Found::None => Err(Refusal {
+        scope::Found::Column { row, .. } => { Ok(Known::leaf(cell::Type::Class, row, at + 1)) }
+        scope::Found::Local { .. } | scope::Found::None => Err(Refusal {
             reason: Reason::NoColumn,
             place: at,
         }),

@@ -22,8 +22,6 @@ pub fn pick_type(g: view::Pick, t: cell::Type) -> Option<cell::Type>
 {
     match g {
         view::Pick::Only => Some(t),
-        view::Pick::Greatest | view::Pick::Least => {
-            matches!(t.kind(), 2..=4).then_some(t)
-        }
+        view::Pick::Greatest | view::Pick::Least => { matches!(t.kind(), 2..=4).then_some(t) }
     }
 }

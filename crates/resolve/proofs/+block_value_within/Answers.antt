@@ -2,32 +2,28 @@
 -- Assumes nothing.
 use borrow.Author.Rules.{rules}
 use native.Mathlib.Omega.{arith}
-use mathlib.Core.Path.{refl, sym, ap, ◌∙◌}
-use Rattle.word.specs.Refusal.{said}
+use mathlib.Core.Path.{refl, sym, ◌∙◌}
 use Rattle.view.proofs.Read.{here_ok}
-use Rattle.resolve.proofs.Turns.{binop_done, if_done, if_ready, if_refused, left_ready, left_refused, not_done, not_ready, not_refused, right_ready, right_refused, second_ready, second_refused, t_bad, t_classof, t_col, t_const, t_table, third_ready, third_refused}
-use Rattle.resolve.proofs.Scoped.{block_6, block_few, block_next, block_opening, block_place, block_room, block_tabled, body_ready, body_refused, exists_done, exists_node, let_done, let_ready, let_refused, single_done, single_node, value_ready, value_refused, where_ready, where_refused}
-use Rattle.resolve.proofs.Noted.{noted_refused, const_noted, col_noted, class_noted, not_noted, binop_noted, if_noted, let_noted}
+use Rattle.resolve.proofs.Turns.{binop_done, if_done, if_ready, if_refused, left_ready, left_refused, not_done, not_ready, not_refused, right_ready, right_refused, second_ready, second_refused, t_bad, t_classof, t_col, t_const, t_none, third_ready, third_refused}
+use Rattle.resolve.proofs.Scoped.{passed, closed, block_6, block_few, block_next, block_opening, block_room, block_tabled, body_ready, body_refused, exists_done, exists_node, let_done, let_ready, let_refused, single_done, single_node, value_ready, value_refused, where_ready, where_refused}
+use Rattle.resolve.proofs.Noted.{unnoted, const_noted, col_noted, class_noted, not_noted, binop_noted, if_noted, let_noted}
 use Rattle.resolve.proofs.NotedBlocks.{exists_noted, single_noted}
 use Rattle.resolve.proofs.+block_value_within.Goals as goal
 
-pub block-open_block-opened-requires-clause-count_in_bounds : goal.block-open_block-opened-requires-clause-count_in_bounds
-block-open_block-opened-requires-clause-count_in_bounds t c = block_room _ _ _ _ _ _ _ _ c.requires.0 _ _ c.requires.1
+pub block-open_block-requires-clause-count_in_bounds : goal.block-open_block-requires-clause-count_in_bounds
+block-open_block-requires-clause-count_in_bounds t c = block_room _ _ _ _ _ _ _ _ c.requires.0 _ _ c.requires.1
 
-pub block-open_block-opened-requires-clause-count_bound : goal.block-open_block-opened-requires-clause-count_bound
-block-open_block-opened-requires-clause-count_bound t c = block_few _ _ _ _ _ _ _ _ c.requires.0 _ _ c.requires.1
+pub block-open_block-requires-clause-count_bound : goal.block-open_block-requires-clause-count_bound
+block-open_block-requires-clause-count_bound t c = block_few _ _ _ _ _ _ _ _ c.requires.0 _ _ c.requires.1
 
-pub block-overflow_cast-result : goal.block-overflow_cast-result
-block-overflow_cast-result t c = let h = block_place _ _ _ _ _ _ _ _ c.requires.0 _ _ c.requires.1 _ c.open_block-opened.ensures c.if-not-opened.true in search rules
+pub block-returns-in_err-own-clause-value : goal.block-returns-in_err-own-clause-value
+block-returns-in_err-own-clause-value t c = passed _ _ c.from_residual.ensures.1 ∙ block_6 _ _ _ _ _ _ _ _ c.requires.0 _ _ c.requires.1 _ _ c.in_err-own.ensures
 
-pub block-returns-then-not-opened-clause-value : goal.block-returns-then-not-opened-clause-value
-block-returns-then-not-opened-clause-value t c = block_6 _ _ _ _ _ _ _ _ c.requires.0 _ _ c.requires.1 _ c.open_block-opened.ensures c.if-not-opened.true
-
-pub block-returns-then-not-opened-clause-noted_by : goal.block-returns-then-not-opened-clause-noted_by
-block-returns-then-not-opened-clause-noted_by t c = (noted_refused _ _ _ _ _ _ _ _ _ _ (block_6 _ _ _ _ _ _ _ _ c.requires.0 _ _ c.requires.1 _ c.open_block-opened.ensures c.if-not-opened.true)).1
+pub block-returns-in_err-own-clause-noted_by : goal.block-returns-in_err-own-clause-noted_by
+block-returns-in_err-own-clause-noted_by t c = unnoted _ _ _ _ _ _ _ _ _ _ (block_6 _ _ _ _ _ _ _ _ c.requires.0 _ _ c.requires.1 _ _ c.in_err-own.ensures)
 
 pub block-tables-requires-clause-tabled : goal.block-tables-requires-clause-tabled
-block-tables-requires-clause-tabled t c = block_tabled _ _ _ _ _ _ _ _ c.requires.0 _ _ c.requires.1 _ c.open_block-opened.ensures c.if-not-opened.false
+block-tables-requires-clause-tabled t c = block_tabled _ _ _ _ _ _ _ _ c.requires.0 _ _ c.requires.1 _ c.in_ok-own.ensures
 
 pub block-tables-requires-clause-count_bound : goal.block-tables-requires-clause-count_bound
 block-tables-requires-clause-count_bound t c = block_next _ _ _ _ _ _ _ _ c.requires.0 _ _ c.requires.1
@@ -36,40 +32,40 @@ pub block-overflow_add-next-2 : goal.block-overflow_add-next-2
 block-overflow_add-next-2 t c = let h = block_next _ _ _ _ _ _ _ _ c.requires.0 _ _ c.requires.1 in omega arith
 
 pub block-within-requires : goal.block-within-requires
-block-within-requires t c = ((let z = c.decreases in let l = c.requires.0.left in omega arith), where_ready _ _ _ _ _ _ _ _ c.requires.0 _ _ c.requires.1 _ c.open_block-opened.ensures c.if-not-opened.false _ refl)
+block-within-requires t c = ((let z = c.decreases in let l = c.requires.0.left in omega arith), where_ready _ _ _ _ _ _ _ _ c.requires.0 _ _ c.requires.1 _ c.in_ok-own.ensures _ refl)
 
 pub block-returns-in_err-test-clause-value : goal.block-returns-in_err-test-clause-value
-block-returns-in_err-test-clause-value t c = ap said c.from_residual.ensures ∙ where_refused _ _ _ _ _ _ _ _ c.requires.0 _ _ c.requires.1 _ c.open_block-opened.ensures c.if-not-opened.false _ refl _ c.in_err-test.ensures.value _ _ refl
+block-returns-in_err-test-clause-value t c = passed _ _ c.from_residual-in_err-test.ensures.1 ∙ where_refused _ _ _ _ _ _ _ _ c.requires.0 _ _ c.requires.1 _ c.in_ok-own.ensures _ refl _ c.in_err-test.ensures.value _ _ refl
 
 pub block-returns-in_err-test-clause-noted_by : goal.block-returns-in_err-test-clause-noted_by
-block-returns-in_err-test-clause-noted_by t c = (noted_refused _ _ _ _ _ _ _ _ _ _ (where_refused _ _ _ _ _ _ _ _ c.requires.0 _ _ c.requires.1 _ c.open_block-opened.ensures c.if-not-opened.false _ refl _ c.in_err-test.ensures.value _ _ refl)).1
+block-returns-in_err-test-clause-noted_by t c = unnoted _ _ _ _ _ _ _ _ _ _ (where_refused _ _ _ _ _ _ _ _ c.requires.0 _ _ c.requires.1 _ c.in_ok-own.ensures _ refl _ c.in_err-test.ensures.value _ _ refl)
 
 pub block-with_exists-requires : goal.block-with_exists-requires
-block-with_exists-requires t c = block_opening _ _ _ _ _ _ _ _ c.requires.0 _ _ c.requires.1 _ c.open_block-opened.ensures c.if-not-opened.false
+block-with_exists-requires t c = block_opening _ _ _ _ _ _ _ _ c.requires.0 _ _ c.requires.1 _ c.in_ok-own.ensures
 
 pub block-within-requires-in-Values : goal.block-within-requires-in-Values
-block-within-requires-in-Values t c = ((let z = c.decreases in let l = c.requires.0.left in omega arith), rw (c.from-then.ensures, c.within.ensures.held_unchanged) (value_ready _ _ _ _ _ _ _ _ c.requires.0 _ _ c.requires.1 _ c.open_block-opened.ensures c.if-not-opened.false _ refl _ c.in_ok-test.ensures.value _ refl _ c.in-Values.is))
+block-within-requires-in-Values t c = ((let z = c.decreases in let l = c.requires.0.left in omega arith), rw (c.from-then.ensures, c.within.ensures.held_unchanged) (value_ready _ _ _ _ _ _ _ _ c.requires.0 _ _ c.requires.1 _ c.in_ok-own.ensures _ refl _ c.in_ok-test.ensures.value _ refl _ c.in-Values.is))
 
 pub block-returns-in_err-each-in-Values-clause-value : goal.block-returns-in_err-each-in-Values-clause-value
-block-returns-in_err-each-in-Values-clause-value t c = ap said c.from_residual-in_err-each-in-Values.ensures ∙ value_refused _ _ _ _ _ _ _ _ c.requires.0 _ _ c.requires.1 _ c.open_block-opened.ensures c.if-not-opened.false _ refl _ c.in_ok-test.ensures.value _ refl _ c.in-Values.is _ (rw (c.from-then.ensures, c.within.ensures.held_unchanged) at c.in_err-each-in-Values.ensures.value) _ _ refl
+block-returns-in_err-each-in-Values-clause-value t c = passed _ _ c.from_residual-in_err-each-in-Values.ensures.1 ∙ value_refused _ _ _ _ _ _ _ _ c.requires.0 _ _ c.requires.1 _ c.in_ok-own.ensures _ refl _ c.in_ok-test.ensures.value _ refl _ c.in-Values.is _ (rw (c.from-then.ensures, c.within.ensures.held_unchanged) at c.in_err-each-in-Values.ensures.value) _ _ refl
 
 pub block-returns-in_err-each-in-Values-clause-noted_by : goal.block-returns-in_err-each-in-Values-clause-noted_by
-block-returns-in_err-each-in-Values-clause-noted_by t c = (noted_refused _ _ _ _ _ _ _ _ _ _ (value_refused _ _ _ _ _ _ _ _ c.requires.0 _ _ c.requires.1 _ c.open_block-opened.ensures c.if-not-opened.false _ refl _ c.in_ok-test.ensures.value _ refl _ c.in-Values.is _ (rw (c.from-then.ensures, c.within.ensures.held_unchanged) at c.in_err-each-in-Values.ensures.value) _ _ refl)).1
+block-returns-in_err-each-in-Values-clause-noted_by t c = unnoted _ _ _ _ _ _ _ _ _ _ (value_refused _ _ _ _ _ _ _ _ c.requires.0 _ _ c.requires.1 _ c.in_ok-own.ensures _ refl _ c.in_ok-test.ensures.value _ refl _ c.in-Values.is _ (rw (c.from-then.ensures, c.within.ensures.held_unchanged) at c.in_err-each-in-Values.ensures.value) _ _ refl)
 
 pub block-with_single-requires : goal.block-with_single-requires
-block-with_single-requires t c = block_opening _ _ _ _ _ _ _ _ c.requires.0 _ _ c.requires.1 _ c.open_block-opened.ensures c.if-not-opened.false
+block-with_single-requires t c = block_opening _ _ _ _ _ _ _ _ c.requires.0 _ _ c.requires.1 _ c.in_ok-own.ensures
 
 pub block-returns-in-Rows-clause-value : goal.block-returns-in-Rows-clause-value
-block-returns-in-Rows-clause-value t c = exists_done _ _ _ _ _ _ _ _ c.requires.0 _ _ c.requires.1 _ c.open_block-opened.ensures c.if-not-opened.false _ refl _ c.in_ok-test.ensures.value _ refl _ _ c.in-Rows.is c.with_exists.ensures
+block-returns-in-Rows-clause-value t c = exists_done _ _ _ _ _ _ _ _ c.requires.0 _ _ c.requires.1 _ c.in_ok-own.ensures _ refl _ c.in_ok-test.ensures.value _ refl _ _ c.in-Rows.is c.with_exists.ensures
 
 pub block-returns-in-Rows-clause-noted_by : goal.block-returns-in-Rows-clause-noted_by
-block-returns-in-Rows-clause-noted_by t c = exists_noted _ _ _ _ _ _ _ _ c.requires.0 _ _ c.requires.1 _ c.open_block-opened.ensures c.if-not-opened.false _ refl _ _ _ _ c.note.ensures c.tables.ensures c.within.ensures.noted_by _ c.in-Rows.is
+block-returns-in-Rows-clause-noted_by t c = exists_noted _ _ _ _ _ _ _ _ c.requires.0 _ _ c.requires.1 _ c.in_ok-own.ensures _ refl _ _ _ _ c.note.ensures c.tables.ensures c.within.ensures.noted_by _ c.in-Rows.is
 
 pub block-returns-in_ok-each-in-Values-clause-value : goal.block-returns-in_ok-each-in-Values-clause-value
-block-returns-in_ok-each-in-Values-clause-value t c = single_done _ _ _ _ _ _ _ _ c.requires.0 _ _ c.requires.1 _ c.open_block-opened.ensures c.if-not-opened.false _ refl _ c.in_ok-test.ensures.value _ refl _ c.in-Values.is _ (rw (c.from-then.ensures, c.within.ensures.held_unchanged) at c.in_ok-each-in-Values.ensures.value) _ _ refl c.with_single.ensures
+block-returns-in_ok-each-in-Values-clause-value t c = single_done _ _ _ _ _ _ _ _ c.requires.0 _ _ c.requires.1 _ c.in_ok-own.ensures _ refl _ c.in_ok-test.ensures.value _ refl _ c.in-Values.is _ (rw (c.from-then.ensures, c.within.ensures.held_unchanged) at c.in_ok-each-in-Values.ensures.value) _ _ refl c.with_single.ensures
 
 pub block-returns-in_ok-each-in-Values-clause-noted_by : goal.block-returns-in_ok-each-in-Values-clause-noted_by
-block-returns-in_ok-each-in-Values-clause-noted_by t c = single_noted _ _ _ _ _ _ _ _ c.requires.0 _ _ c.requires.1 _ c.open_block-opened.ensures c.if-not-opened.false _ refl _ _ _ _ c.note.ensures c.tables.ensures c.within.ensures.noted_by _ c.in_ok-test.ensures.value _ refl _ (rw (c.from-then.ensures, c.within.ensures.held_unchanged) at c.within-in-Values.ensures.noted_by) _ c.in-Values.is
+block-returns-in_ok-each-in-Values-clause-noted_by t c = single_noted _ _ _ _ _ _ _ _ c.requires.0 _ _ c.requires.1 _ c.in_ok-own.ensures _ refl _ _ _ _ c.note.ensures c.tables.ensures c.within.ensures.noted_by _ c.in_ok-test.ensures.value _ refl _ (rw (c.from-then.ensures, c.within.ensures.held_unchanged) at c.within-in-Values.ensures.noted_by) _ c.in-Values.is
 
 pub value-sound_at-requires-clause-i_value : goal.value-sound_at-requires-clause-i_value
 value-sound_at-requires-clause-i_value t c = (here_ok _ _ _ _ c.requires.is_read).slot
@@ -78,25 +74,25 @@ pub value-value-requires : goal.value-value-requires
 value-value-requires t c = ((let z = c.decreases in let l = c.requires.left in omega arith), left_ready _ _ _ _ _ _ _ _ _ c.requires c.sound_at.ensures _ c.in-Binop.is)
 
 pub value-returns-in_err-left-in-Binop-clause-value : goal.value-returns-in_err-left-in-Binop-clause-value
-value-returns-in_err-left-in-Binop-clause-value t c = ap said c.from_residual.ensures ∙ left_refused _ _ _ _ _ _ _ _ _ c.requires c.sound_at.ensures _ c.in-Binop.is _ c.in_err-left-in-Binop.ensures.value _ _ refl
+value-returns-in_err-left-in-Binop-clause-value t c = passed _ _ c.from_residual.ensures.1 ∙ left_refused _ _ _ _ _ _ _ _ _ c.requires c.sound_at.ensures _ c.in-Binop.is _ c.in_err-left-in-Binop.ensures.value _ _ refl
 
 pub value-returns-in_err-left-in-Binop-clause-noted_by : goal.value-returns-in_err-left-in-Binop-clause-noted_by
-value-returns-in_err-left-in-Binop-clause-noted_by t c = (noted_refused _ _ _ _ _ _ _ _ _ _ (left_refused _ _ _ _ _ _ _ _ _ c.requires c.sound_at.ensures _ c.in-Binop.is _ c.in_err-left-in-Binop.ensures.value _ _ refl)).1
+value-returns-in_err-left-in-Binop-clause-noted_by t c = unnoted _ _ _ _ _ _ _ _ _ _ (left_refused _ _ _ _ _ _ _ _ _ c.requires c.sound_at.ensures _ c.in-Binop.is _ c.in_err-left-in-Binop.ensures.value _ _ refl)
 
 pub value-value-requires-in-Binop : goal.value-value-requires-in-Binop
 value-value-requires-in-Binop t c = ((let z = c.decreases in let l = c.requires.left in omega arith), rw (c.from.ensures, c.value.ensures.held_unchanged) (right_ready _ _ _ _ _ _ _ _ _ c.requires c.sound_at.ensures _ c.in-Binop.is _ c.in_ok-left-in-Binop.ensures.value _ refl))
 
 pub value-returns-in_err-right-in-Binop-clause-value : goal.value-returns-in_err-right-in-Binop-clause-value
-value-returns-in_err-right-in-Binop-clause-value t c = ap said c.from_residual-in_err-right-in-Binop.ensures ∙ right_refused _ _ _ _ _ _ _ _ _ c.requires c.sound_at.ensures _ c.in-Binop.is _ c.in_ok-left-in-Binop.ensures.value _ refl _ (rw (c.from.ensures, c.value.ensures.held_unchanged) at c.in_err-right-in-Binop.ensures.value) _ _ refl
+value-returns-in_err-right-in-Binop-clause-value t c = passed _ _ c.from_residual-in_err-right-in-Binop.ensures.1 ∙ right_refused _ _ _ _ _ _ _ _ _ c.requires c.sound_at.ensures _ c.in-Binop.is _ c.in_ok-left-in-Binop.ensures.value _ refl _ (rw (c.from.ensures, c.value.ensures.held_unchanged) at c.in_err-right-in-Binop.ensures.value) _ _ refl
 
 pub value-returns-in_err-right-in-Binop-clause-noted_by : goal.value-returns-in_err-right-in-Binop-clause-noted_by
-value-returns-in_err-right-in-Binop-clause-noted_by t c = (noted_refused _ _ _ _ _ _ _ _ _ _ (right_refused _ _ _ _ _ _ _ _ _ c.requires c.sound_at.ensures _ c.in-Binop.is _ c.in_ok-left-in-Binop.ensures.value _ refl _ (rw (c.from.ensures, c.value.ensures.held_unchanged) at c.in_err-right-in-Binop.ensures.value) _ _ refl)).1
+value-returns-in_err-right-in-Binop-clause-noted_by t c = unnoted _ _ _ _ _ _ _ _ _ _ (right_refused _ _ _ _ _ _ _ _ _ c.requires c.sound_at.ensures _ c.in-Binop.is _ c.in_ok-left-in-Binop.ensures.value _ refl _ (rw (c.from.ensures, c.value.ensures.held_unchanged) at c.in_err-right-in-Binop.ensures.value) _ _ refl)
 
 pub value-returns-in_err-known-in-Binop-clause-value : goal.value-returns-in_err-known-in-Binop-clause-value
-value-returns-in_err-known-in-Binop-clause-value t c = ap said c.from_residual-in_err-known-in-Binop.ensures ∙ binop_done _ _ _ _ _ _ _ _ _ c.requires c.sound_at.ensures _ c.in-Binop.is _ c.in_ok-left-in-Binop.ensures.value _ refl _ (rw (c.from.ensures, c.value.ensures.held_unchanged) at c.in_ok-right-in-Binop.ensures.value) _ _ refl c.in_err-known-in-Binop.ensures
+value-returns-in_err-known-in-Binop-clause-value t c = passed _ _ c.from_residual-in_err-known-in-Binop.ensures.1 ∙ binop_done _ _ _ _ _ _ _ _ _ c.requires c.sound_at.ensures _ c.in-Binop.is _ c.in_ok-left-in-Binop.ensures.value _ refl _ (rw (c.from.ensures, c.value.ensures.held_unchanged) at c.in_ok-right-in-Binop.ensures.value) _ _ refl c.in_err-known-in-Binop.ensures
 
 pub value-returns-in_err-known-in-Binop-clause-noted_by : goal.value-returns-in_err-known-in-Binop-clause-noted_by
-value-returns-in_err-known-in-Binop-clause-noted_by t c = (noted_refused _ _ _ _ _ _ _ _ _ _ (binop_done _ _ _ _ _ _ _ _ _ c.requires c.sound_at.ensures _ c.in-Binop.is _ c.in_ok-left-in-Binop.ensures.value _ refl _ (rw (c.from.ensures, c.value.ensures.held_unchanged) at c.in_ok-right-in-Binop.ensures.value) _ _ refl c.in_err-known-in-Binop.ensures)).1
+value-returns-in_err-known-in-Binop-clause-noted_by t c = unnoted _ _ _ _ _ _ _ _ _ _ (binop_done _ _ _ _ _ _ _ _ _ c.requires c.sound_at.ensures _ c.in-Binop.is _ c.in_ok-left-in-Binop.ensures.value _ refl _ (rw (c.from.ensures, c.value.ensures.held_unchanged) at c.in_ok-right-in-Binop.ensures.value) _ _ refl c.in_err-known-in-Binop.ensures)
 
 pub value-returns-in_ok-known-in-Binop-clause-value : goal.value-returns-in_ok-known-in-Binop-clause-value
 value-returns-in_ok-known-in-Binop-clause-value t c = binop_done _ _ _ _ _ _ _ _ _ c.requires c.sound_at.ensures _ c.in-Binop.is _ c.in_ok-left-in-Binop.ensures.value _ refl _ (rw (c.from.ensures, c.value.ensures.held_unchanged) at c.in_ok-right-in-Binop.ensures.value) _ _ refl c.in_ok-known-in-Binop.ensures
@@ -108,10 +104,10 @@ pub value-value-requires-in-Not : goal.value-value-requires-in-Not
 value-value-requires-in-Not t c = ((let z = c.decreases in let l = c.requires.left in omega arith), not_ready _ _ _ _ _ _ _ _ _ c.requires c.sound_at.ensures c.in-Not.is)
 
 pub value-returns-in_err-operand-in-Not-clause-value : goal.value-returns-in_err-operand-in-Not-clause-value
-value-returns-in_err-operand-in-Not-clause-value t c = ap said c.from_residual-in_err-operand-in-Not.ensures ∙ not_refused _ _ _ _ _ _ _ _ _ c.requires c.sound_at.ensures c.in-Not.is _ c.in_err-operand-in-Not.ensures.value _ _ refl
+value-returns-in_err-operand-in-Not-clause-value t c = passed _ _ c.from_residual-in_err-operand-in-Not.ensures.1 ∙ not_refused _ _ _ _ _ _ _ _ _ c.requires c.sound_at.ensures c.in-Not.is _ c.in_err-operand-in-Not.ensures.value _ _ refl
 
 pub value-returns-in_err-operand-in-Not-clause-noted_by : goal.value-returns-in_err-operand-in-Not-clause-noted_by
-value-returns-in_err-operand-in-Not-clause-noted_by t c = (noted_refused _ _ _ _ _ _ _ _ _ _ (not_refused _ _ _ _ _ _ _ _ _ c.requires c.sound_at.ensures c.in-Not.is _ c.in_err-operand-in-Not.ensures.value _ _ refl)).1
+value-returns-in_err-operand-in-Not-clause-noted_by t c = unnoted _ _ _ _ _ _ _ _ _ _ (not_refused _ _ _ _ _ _ _ _ _ c.requires c.sound_at.ensures c.in-Not.is _ c.in_err-operand-in-Not.ensures.value _ _ refl)
 
 pub value-returns-in_ok-operand-in-Not-clause-value : goal.value-returns-in_ok-operand-in-Not-clause-value
 value-returns-in_ok-operand-in-Not-clause-value t c = not_done _ _ _ _ _ _ _ _ _ c.requires c.sound_at.ensures c.in-Not.is _ c.in_ok-operand-in-Not.ensures.value _ _ refl c.not.ensures
@@ -123,34 +119,34 @@ pub value-value-requires-in-If : goal.value-value-requires-in-If
 value-value-requires-in-If t c = ((let z = c.decreases in let l = c.requires.left in omega arith), if_ready _ _ _ _ _ _ _ _ _ c.requires c.sound_at.ensures c.in-If.is)
 
 pub value-returns-in_err-test-in-If-clause-value : goal.value-returns-in_err-test-in-If-clause-value
-value-returns-in_err-test-in-If-clause-value t c = ap said c.from_residual-in_err-test-in-If.ensures ∙ if_refused _ _ _ _ _ _ _ _ _ c.requires c.sound_at.ensures c.in-If.is _ c.in_err-test-in-If.ensures.value _ _ refl
+value-returns-in_err-test-in-If-clause-value t c = passed _ _ c.from_residual-in_err-test-in-If.ensures.1 ∙ if_refused _ _ _ _ _ _ _ _ _ c.requires c.sound_at.ensures c.in-If.is _ c.in_err-test-in-If.ensures.value _ _ refl
 
 pub value-returns-in_err-test-in-If-clause-noted_by : goal.value-returns-in_err-test-in-If-clause-noted_by
-value-returns-in_err-test-in-If-clause-noted_by t c = (noted_refused _ _ _ _ _ _ _ _ _ _ (if_refused _ _ _ _ _ _ _ _ _ c.requires c.sound_at.ensures c.in-If.is _ c.in_err-test-in-If.ensures.value _ _ refl)).1
+value-returns-in_err-test-in-If-clause-noted_by t c = unnoted _ _ _ _ _ _ _ _ _ _ (if_refused _ _ _ _ _ _ _ _ _ c.requires c.sound_at.ensures c.in-If.is _ c.in_err-test-in-If.ensures.value _ _ refl)
 
 pub value-value-requires-in-If-2 : goal.value-value-requires-in-If-2
 value-value-requires-in-If-2 t c = ((let z = c.decreases in let l = c.requires.left in omega arith), rw (c.from-in-If.ensures, c.value-in-If.ensures.held_unchanged) (second_ready _ _ _ _ _ _ _ _ _ c.requires c.sound_at.ensures c.in-If.is _ c.in_ok-test-in-If.ensures.value _ refl))
 
 pub value-returns-in_err-yes-in-If-clause-value : goal.value-returns-in_err-yes-in-If-clause-value
-value-returns-in_err-yes-in-If-clause-value t c = ap said c.from_residual-in_err-yes-in-If.ensures ∙ second_refused _ _ _ _ _ _ _ _ _ c.requires c.sound_at.ensures c.in-If.is _ c.in_ok-test-in-If.ensures.value _ refl _ (rw (c.from-in-If.ensures, c.value-in-If.ensures.held_unchanged) at c.in_err-yes-in-If.ensures.value) _ _ refl
+value-returns-in_err-yes-in-If-clause-value t c = passed _ _ c.from_residual-in_err-yes-in-If.ensures.1 ∙ second_refused _ _ _ _ _ _ _ _ _ c.requires c.sound_at.ensures c.in-If.is _ c.in_ok-test-in-If.ensures.value _ refl _ (rw (c.from-in-If.ensures, c.value-in-If.ensures.held_unchanged) at c.in_err-yes-in-If.ensures.value) _ _ refl
 
 pub value-returns-in_err-yes-in-If-clause-noted_by : goal.value-returns-in_err-yes-in-If-clause-noted_by
-value-returns-in_err-yes-in-If-clause-noted_by t c = (noted_refused _ _ _ _ _ _ _ _ _ _ (second_refused _ _ _ _ _ _ _ _ _ c.requires c.sound_at.ensures c.in-If.is _ c.in_ok-test-in-If.ensures.value _ refl _ (rw (c.from-in-If.ensures, c.value-in-If.ensures.held_unchanged) at c.in_err-yes-in-If.ensures.value) _ _ refl)).1
+value-returns-in_err-yes-in-If-clause-noted_by t c = unnoted _ _ _ _ _ _ _ _ _ _ (second_refused _ _ _ _ _ _ _ _ _ c.requires c.sound_at.ensures c.in-If.is _ c.in_ok-test-in-If.ensures.value _ refl _ (rw (c.from-in-If.ensures, c.value-in-If.ensures.held_unchanged) at c.in_err-yes-in-If.ensures.value) _ _ refl)
 
 pub value-value-requires-in-If-3 : goal.value-value-requires-in-If-3
 value-value-requires-in-If-3 t c = ((let z = c.decreases in let l = c.requires.left in omega arith), rw (c.from-in-If-2.ensures, c.value-in-If-2.ensures.held_unchanged, c.value-in-If.ensures.held_unchanged) (third_ready _ _ _ _ _ _ _ _ _ c.requires c.sound_at.ensures c.in-If.is _ c.in_ok-test-in-If.ensures.value _ refl _ (rw (c.from-in-If.ensures, c.value-in-If.ensures.held_unchanged) at c.in_ok-yes-in-If.ensures.value) _ refl))
 
 pub value-returns-in_err-no-in-If-clause-value : goal.value-returns-in_err-no-in-If-clause-value
-value-returns-in_err-no-in-If-clause-value t c = ap said c.from_residual-in_err-no-in-If.ensures ∙ third_refused _ _ _ _ _ _ _ _ _ c.requires c.sound_at.ensures c.in-If.is _ c.in_ok-test-in-If.ensures.value _ refl _ (rw (c.from-in-If.ensures, c.value-in-If.ensures.held_unchanged) at c.in_ok-yes-in-If.ensures.value) _ refl _ (rw (c.from-in-If-2.ensures, c.value-in-If-2.ensures.held_unchanged, c.value-in-If.ensures.held_unchanged) at c.in_err-no-in-If.ensures.value) _ _ refl
+value-returns-in_err-no-in-If-clause-value t c = passed _ _ c.from_residual-in_err-no-in-If.ensures.1 ∙ third_refused _ _ _ _ _ _ _ _ _ c.requires c.sound_at.ensures c.in-If.is _ c.in_ok-test-in-If.ensures.value _ refl _ (rw (c.from-in-If.ensures, c.value-in-If.ensures.held_unchanged) at c.in_ok-yes-in-If.ensures.value) _ refl _ (rw (c.from-in-If-2.ensures, c.value-in-If-2.ensures.held_unchanged, c.value-in-If.ensures.held_unchanged) at c.in_err-no-in-If.ensures.value) _ _ refl
 
 pub value-returns-in_err-no-in-If-clause-noted_by : goal.value-returns-in_err-no-in-If-clause-noted_by
-value-returns-in_err-no-in-If-clause-noted_by t c = (noted_refused _ _ _ _ _ _ _ _ _ _ (third_refused _ _ _ _ _ _ _ _ _ c.requires c.sound_at.ensures c.in-If.is _ c.in_ok-test-in-If.ensures.value _ refl _ (rw (c.from-in-If.ensures, c.value-in-If.ensures.held_unchanged) at c.in_ok-yes-in-If.ensures.value) _ refl _ (rw (c.from-in-If-2.ensures, c.value-in-If-2.ensures.held_unchanged, c.value-in-If.ensures.held_unchanged) at c.in_err-no-in-If.ensures.value) _ _ refl)).1
+value-returns-in_err-no-in-If-clause-noted_by t c = unnoted _ _ _ _ _ _ _ _ _ _ (third_refused _ _ _ _ _ _ _ _ _ c.requires c.sound_at.ensures c.in-If.is _ c.in_ok-test-in-If.ensures.value _ refl _ (rw (c.from-in-If.ensures, c.value-in-If.ensures.held_unchanged) at c.in_ok-yes-in-If.ensures.value) _ refl _ (rw (c.from-in-If-2.ensures, c.value-in-If-2.ensures.held_unchanged, c.value-in-If.ensures.held_unchanged) at c.in_err-no-in-If.ensures.value) _ _ refl)
 
 pub value-returns-in_err-known-in-If-clause-value : goal.value-returns-in_err-known-in-If-clause-value
-value-returns-in_err-known-in-If-clause-value t c = ap said c.from_residual-in_err-known-in-If.ensures ∙ if_done _ _ _ _ _ _ _ _ _ c.requires c.sound_at.ensures c.in-If.is _ c.in_ok-test-in-If.ensures.value _ refl _ (rw (c.from-in-If.ensures, c.value-in-If.ensures.held_unchanged) at c.in_ok-yes-in-If.ensures.value) _ refl _ (rw (c.from-in-If-2.ensures, c.value-in-If-2.ensures.held_unchanged, c.value-in-If.ensures.held_unchanged) at c.in_ok-no-in-If.ensures.value) _ _ refl c.in_err-known-in-If.ensures
+value-returns-in_err-known-in-If-clause-value t c = passed _ _ c.from_residual-in_err-known-in-If.ensures.1 ∙ if_done _ _ _ _ _ _ _ _ _ c.requires c.sound_at.ensures c.in-If.is _ c.in_ok-test-in-If.ensures.value _ refl _ (rw (c.from-in-If.ensures, c.value-in-If.ensures.held_unchanged) at c.in_ok-yes-in-If.ensures.value) _ refl _ (rw (c.from-in-If-2.ensures, c.value-in-If-2.ensures.held_unchanged, c.value-in-If.ensures.held_unchanged) at c.in_ok-no-in-If.ensures.value) _ _ refl c.in_err-known-in-If.ensures
 
 pub value-returns-in_err-known-in-If-clause-noted_by : goal.value-returns-in_err-known-in-If-clause-noted_by
-value-returns-in_err-known-in-If-clause-noted_by t c = (noted_refused _ _ _ _ _ _ _ _ _ _ (if_done _ _ _ _ _ _ _ _ _ c.requires c.sound_at.ensures c.in-If.is _ c.in_ok-test-in-If.ensures.value _ refl _ (rw (c.from-in-If.ensures, c.value-in-If.ensures.held_unchanged) at c.in_ok-yes-in-If.ensures.value) _ refl _ (rw (c.from-in-If-2.ensures, c.value-in-If-2.ensures.held_unchanged, c.value-in-If.ensures.held_unchanged) at c.in_ok-no-in-If.ensures.value) _ _ refl c.in_err-known-in-If.ensures)).1
+value-returns-in_err-known-in-If-clause-noted_by t c = unnoted _ _ _ _ _ _ _ _ _ _ (if_done _ _ _ _ _ _ _ _ _ c.requires c.sound_at.ensures c.in-If.is _ c.in_ok-test-in-If.ensures.value _ refl _ (rw (c.from-in-If.ensures, c.value-in-If.ensures.held_unchanged) at c.in_ok-yes-in-If.ensures.value) _ refl _ (rw (c.from-in-If-2.ensures, c.value-in-If-2.ensures.held_unchanged, c.value-in-If.ensures.held_unchanged) at c.in_ok-no-in-If.ensures.value) _ _ refl c.in_err-known-in-If.ensures)
 
 pub value-mark-requires : goal.value-mark-requires
 value-mark-requires t c = rw c.from-in-If-3.ensures (let b = c.requires.lent.view_few in let i = (second_ready _ _ _ _ _ _ _ _ _ c.requires c.sound_at.ensures c.in-If.is _ c.in_ok-test-in-If.ensures.value _ refl).here in omega (arith, b, i))
@@ -168,19 +164,19 @@ pub value-value-requires-in-Let : goal.value-value-requires-in-Let
 value-value-requires-in-Let t c = ((let z = c.decreases in let l = c.requires.left in omega arith), let_ready _ _ _ _ _ _ _ _ c.requires _ (sym c.in-Let.ensures))
 
 pub value-returns-in_err-bound-in-Let-clause-value : goal.value-returns-in_err-bound-in-Let-clause-value
-value-returns-in_err-bound-in-Let-clause-value t c = ap said c.from_residual-in_err-bound-in-Let.ensures ∙ let_refused _ _ _ _ _ _ _ _ c.requires _ (sym c.in-Let.ensures) _ c.in_err-bound-in-Let.ensures.value _ _ refl
+value-returns-in_err-bound-in-Let-clause-value t c = passed _ _ c.from_residual-in_err-bound-in-Let.ensures.1 ∙ let_refused _ _ _ _ _ _ _ _ c.requires _ (sym c.in-Let.ensures) _ c.in_err-bound-in-Let.ensures.value _ _ refl
 
 pub value-returns-in_err-bound-in-Let-clause-noted_by : goal.value-returns-in_err-bound-in-Let-clause-noted_by
-value-returns-in_err-bound-in-Let-clause-noted_by t c = (noted_refused _ _ _ _ _ _ _ _ _ _ (let_refused _ _ _ _ _ _ _ _ c.requires _ (sym c.in-Let.ensures) _ c.in_err-bound-in-Let.ensures.value _ _ refl)).1
+value-returns-in_err-bound-in-Let-clause-noted_by t c = unnoted _ _ _ _ _ _ _ _ _ _ (let_refused _ _ _ _ _ _ _ _ c.requires _ (sym c.in-Let.ensures) _ c.in_err-bound-in-Let.ensures.value _ _ refl)
 
 pub value-within-requires : goal.value-within-requires
 value-within-requires t c = ((let z = c.decreases in let l = c.requires.left in omega arith), rw (c.from-start.ensures, c.value-in-Let.ensures.held_unchanged) (body_ready _ _ _ _ _ _ _ _ c.requires _ (sym c.in-Let.ensures) _ (sym c.in_ok-bound-in-Let.ensures.value) _ _ c.local_scope-own.ensures refl))
 
 pub value-returns-in_err-body-in-Let-clause-value : goal.value-returns-in_err-body-in-Let-clause-value
-value-returns-in_err-body-in-Let-clause-value t c = ap said c.from_residual-in_err-body-in-Let.ensures ∙ body_refused _ _ _ _ _ _ _ _ c.requires _ (sym c.in-Let.ensures) _ (sym c.in_ok-bound-in-Let.ensures.value) _ _ c.local_scope-own.ensures refl _ (rw (c.from-start.ensures, c.value-in-Let.ensures.held_unchanged) at c.in_err-body-in-Let.ensures.value) _ _ refl
+value-returns-in_err-body-in-Let-clause-value t c = passed _ _ c.from_residual-in_err-body-in-Let.ensures.1 ∙ body_refused _ _ _ _ _ _ _ _ c.requires _ (sym c.in-Let.ensures) _ (sym c.in_ok-bound-in-Let.ensures.value) _ _ c.local_scope-own.ensures refl _ (rw (c.from-start.ensures, c.value-in-Let.ensures.held_unchanged) at c.in_err-body-in-Let.ensures.value) _ _ refl
 
 pub value-returns-in_err-body-in-Let-clause-noted_by : goal.value-returns-in_err-body-in-Let-clause-noted_by
-value-returns-in_err-body-in-Let-clause-noted_by t c = (noted_refused _ _ _ _ _ _ _ _ _ _ (body_refused _ _ _ _ _ _ _ _ c.requires _ (sym c.in-Let.ensures) _ (sym c.in_ok-bound-in-Let.ensures.value) _ _ c.local_scope-own.ensures refl _ (rw (c.from-start.ensures, c.value-in-Let.ensures.held_unchanged) at c.in_err-body-in-Let.ensures.value) _ _ refl)).1
+value-returns-in_err-body-in-Let-clause-noted_by t c = unnoted _ _ _ _ _ _ _ _ _ _ (body_refused _ _ _ _ _ _ _ _ c.requires _ (sym c.in-Let.ensures) _ (sym c.in_ok-bound-in-Let.ensures.value) _ _ c.local_scope-own.ensures refl _ (rw (c.from-start.ensures, c.value-in-Let.ensures.held_unchanged) at c.in_err-body-in-Let.ensures.value) _ _ refl)
 
 pub value-returns-in_ok-body-in-Let-clause-value : goal.value-returns-in_ok-body-in-Let-clause-value
 value-returns-in_ok-body-in-Let-clause-value t c = let_done _ _ _ _ _ _ _ _ c.requires _ (sym c.in-Let.ensures) _ (sym c.in_ok-bound-in-Let.ensures.value) _ _ c.local_scope-own.ensures refl _ (rw (c.from-start.ensures, c.value-in-Let.ensures.held_unchanged) at c.in_ok-body-in-Let.ensures.value) _ _ refl c.bind.ensures
@@ -201,25 +197,28 @@ pub value-returns-in-Const-clause-noted_by : goal.value-returns-in-Const-clause-
 value-returns-in-Const-clause-noted_by t c = const_noted _ _ _ _ _ _ _ _ c.requires _ c.sound_at.ensures _ _ c.in-Const.is _ _ c.note.ensures
 
 pub value-returns-in-Col-clause-value : goal.value-returns-in-Col-clause-value
-value-returns-in-Col-clause-value t c = t_col _ _ _ _ _ _ _ _ _ c.requires c.sound_at.ensures _ _ _ _ c.in-Col.is c.find_in-found.ensures c.column.ensures
+value-returns-in-Col-clause-value t c = t_col _ _ _ _ _ _ _ _ _ c.requires c.sound_at.ensures _ _ _ _ c.in-Col.is c.find-found.ensures c.column.ensures
 
 pub value-returns-in-Col-clause-noted_by : goal.value-returns-in-Col-clause-noted_by
-value-returns-in-Col-clause-noted_by t c = col_noted _ _ _ _ _ _ _ _ c.requires _ c.sound_at.ensures _ _ _ c.find_in-found.ensures _ c.found_note.ensures _ _ c.note-in-Col.ensures c.in-Col.is
+value-returns-in-Col-clause-noted_by t c = col_noted _ _ _ _ _ _ _ _ c.requires _ c.sound_at.ensures _ _ _ c.find-found.ensures _ c.found_note.ensures _ _ c.note-in-Col.ensures c.in-Col.is
 
 pub value-returns-in-Classof-clause-value : goal.value-returns-in-Classof-clause-value
-value-returns-in-Classof-clause-value t c = t_classof _ _ _ _ _ _ _ _ _ c.requires c.sound_at.ensures _ _ _ _ c.in-Classof.is c.find_in-found-in-Classof.ensures c.class_of.ensures
+value-returns-in-Classof-clause-value t c = t_classof _ _ _ _ _ _ _ _ _ c.requires c.sound_at.ensures _ _ _ _ c.in-Classof.is c.find-found-in-Classof.ensures c.class_of.ensures
 
 pub value-returns-in-Classof-clause-noted_by : goal.value-returns-in-Classof-clause-noted_by
-value-returns-in-Classof-clause-noted_by t c = class_noted _ _ _ _ _ _ _ _ c.requires _ c.sound_at.ensures _ _ _ c.find_in-found-in-Classof.ensures _ c.found_note-in-Classof.ensures _ _ c.note-in-Classof.ensures c.in-Classof.is
+value-returns-in-Classof-clause-noted_by t c = class_noted _ _ _ _ _ _ _ _ c.requires _ c.sound_at.ensures _ _ _ c.find-found-in-Classof.ensures _ c.found_note-in-Classof.ensures _ _ c.note-in-Classof.ensures c.in-Classof.is
 
 pub value-returns-in-Table-clause-value : goal.value-returns-in-Table-clause-value
-value-returns-in-Table-clause-value t c = t_table _ _ _ _ _ _ _ _ _ c.requires c.sound_at.ensures _ _ _ c.in-Table.is
+value-returns-in-Table-clause-value t c = t_none _ _ _ _ _ _ _ _ _ c.requires c.sound_at.ensures 4 c.args.at c.in-Table.is
 
 pub value-returns-in-Table-clause-noted_by : goal.value-returns-in-Table-clause-noted_by
-value-returns-in-Table-clause-noted_by t c = (noted_refused _ _ _ _ _ _ _ _ _ _ (t_table _ _ _ _ _ _ _ _ _ c.requires c.sound_at.ensures _ _ _ c.in-Table.is)).1
+value-returns-in-Table-clause-noted_by t c = unnoted _ _ _ _ _ _ _ _ _ _ (t_none _ _ _ _ _ _ _ _ _ c.requires c.sound_at.ensures 4 c.args.at c.in-Table.is)
 
 pub value-returns-in-Bad-clause-value : goal.value-returns-in-Bad-clause-value
-value-returns-in-Bad-clause-value t c = t_bad _ _ _ _ _ _ _ _ _ c.requires c.sound_at.ensures _ _ c.in-Bad.is
+value-returns-in-Bad-clause-value t c = t_bad _ _ _ _ _ _ _ _ _ c.requires c.sound_at.ensures 3 c.args.at c.in-Bad.is
 
 pub value-returns-in-Bad-clause-noted_by : goal.value-returns-in-Bad-clause-noted_by
-value-returns-in-Bad-clause-noted_by t c = (noted_refused _ _ _ _ _ _ _ _ _ _ (t_bad _ _ _ _ _ _ _ _ _ c.requires c.sound_at.ensures _ _ c.in-Bad.is)).1
+value-returns-in-Bad-clause-noted_by t c = unnoted _ _ _ _ _ _ _ _ _ _ (t_bad _ _ _ _ _ _ _ _ _ c.requires c.sound_at.ensures 3 c.args.at c.in-Bad.is)
+
+pub within-returns-clause-held_unchanged : goal.within-returns-clause-held_unchanged
+within-returns-clause-held_unchanged t c = closed _ _ _ _ _ (c.value-answer.ensures.held_unchanged ∙ c.push.ensures)
