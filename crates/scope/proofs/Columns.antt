@@ -9,17 +9,13 @@ use native.Mathlib.Omega.{arith}
 use borrow.Author.Rules.{rules}
 use borrow.Author.Tests.{eq-eqb, ne_eqb}
 use lib.Dec.{eqb}
-use Rattle.word.specs.Record.{Record, rec_at, kind_at, op_at, a_at, b_at, c_at}
-use Rattle.class.specs.Info.{info_by}
-use Rattle.class.specs.declared.Info.{Info}
-use Rattle.cell.specs.declared.Type.{«Type» as Ty}
+use Rattle.word.specs.Record.{Record, rec_at, kind_at, a_at, c_at}
 use Rattle.catalogue.specs.Tables.{Table, column_at, cols_from, table_at}
 use Rattle.catalogue.proofs.Listed.{cols_next, cols_stop, cols_end}
 use Rattle.scope.specs.Scopes.{column, only_of, in_cols, in_table}
 use Rattle.scope.specs.Match.{FirstIs, MatchIs, first_by, only_by}
-use Rattle.scope.specs.declared.Matches.{Matches}
-use Rattle.scope.specs.declared.Matches.TheVariants as N
-use Rattle.scope.specs.declared.Found.TheVariants as F
+use Rattle.scope.specs.declared.names.Matches.{Matches}
+use Rattle.scope.specs.declared.names.Matches.TheVariants as N
 
 -- the fields of a record that was read
 module _ (c : List ℕ) (i : ℕ) (x : Record) (e : x ≡ rec_at c i) where
@@ -70,12 +66,6 @@ module _ (c : List ℕ) (n i name : ℕ) where
             let l = u.from in
             record { some = u.some; from = omega arith; same = λ a b k t. u.same a b k t ∙ (let e : k + (j + 1 - i) ≡ k + (j - i) + 1 = omega arith in rw (cols_next c n j h (sym y ∙ f), e) (unfold column_at in rw (ne_eqb (a_at c j) name (λ o. g (z ∙ o))))) }
 
--- the match of a column
-pub column_made : (c : List ℕ) (i t a b k : ℕ) (ty : Ty) (j row : Info) → ty ≡ (column_at c i).ty → j ≡ info_by (op_at c i) (b_at c i) → row ≡ info_by (op_at c t) (b_at c t)
-    → F.Column a b k ty j row ≡ F.Column a b k (column_at c i).ty (column_at c i).info (info_by (op_at c t) (b_at c t))
-unfolding column_at
-column_made c i t a b k ty j row e f g = rw (e, f, g)
-
 -- a table
 module _ (c : List ℕ) (n t name : ℕ) where
   all_cols : (a b : ℕ) → in_table name 0 a b (table_at c n t) ≡ in_cols name a b (table_at c n t) 0 (cols_from c (n - (t + 1)) (t + 1))
@@ -123,20 +113,14 @@ module _ (c : List ℕ) (n t name : ℕ) where
     unfolding in_table table_at
     meant a b f = rw f
 
-    table_yes : (r : Matches) → (eqb q 0 || eqb (a_at c t) q) ≡ true → MatchIs c n t name 0 r → MatchIs c n t name q r
+    pub table_yes : (r : Matches) → (eqb q 0 || eqb (a_at c t) q) ≡ true → MatchIs c n t name 0 r → MatchIs c n t name q r
     table_yes r f m = record { past = m.past; says = λ a b. ap only_of (meant a b f) ∙ m.says a b }
-
-    pub table_bare : (r : Matches) → q ≡ 0 → MatchIs c n t name 0 r → MatchIs c n t name q r
-    table_bare r e = table_yes r (rw (eq-eqb q 0 e))
-
-    pub table_own : (r : Matches) (own : ℕ) → own ≡ a_at c t → (q ≡ 0 → ⊥) → own ≡ q → MatchIs c n t name 0 r → MatchIs c n t name q r
-    table_own r own e f g = table_yes r (rw (ne_eqb q 0 f, eq-eqb (a_at c t) q (sym e ∙ g)))
 
     not_meant : (a b : ℕ) → (eqb q 0 || eqb (a_at c t) q) ≡ false → in_table name q a b (table_at c n t) ≡ []
     unfolding in_table table_at
     not_meant a b f = rw f
 
-    pub table_no : (own : ℕ) → own ≡ a_at c t → (q ≡ 0 → ⊥) → (own ≡ q → ⊥) → MatchIs c n t name q N.None
-    table_no own e f g = no_match q (λ a b. not_meant a b (rw (ne_eqb q 0 f, ne_eqb (a_at c t) q (λ z. g (e ∙ z)))))
+    pub table_no : (eqb q 0 || eqb (a_at c t) q) ≡ false → MatchIs c n t name q N.None
+    table_no f = no_match q (λ a b. not_meant a b f)
 
-pub ruleset columns = (named_begin, named_done, named_stop, named_here, named_again, column_made, column_none, column_one, column_more, table_out, table_bare, table_own, table_no, rules)
+pub ruleset columns = (named_begin, named_done, named_stop, named_here, named_again, rules)

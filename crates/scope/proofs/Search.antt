@@ -22,8 +22,8 @@ use Rattle.scope.specs.declared.Scope.{Scope}
 use Rattle.scope.specs.declared.Scope.TheVariants as S
 use Rattle.scope.specs.declared.Found.{Found}
 use Rattle.scope.specs.declared.Found.TheVariants as F
-use Rattle.scope.specs.declared.Matches.{Matches}
-use Rattle.scope.specs.declared.Matches.TheVariants as N
+use Rattle.scope.specs.declared.names.Matches.{Matches}
+use Rattle.scope.specs.declared.names.Matches.TheVariants as N
 use Rattle.scope.proofs.Hits.{both, only_both, same_scope}
 
 -- the record of a block's table

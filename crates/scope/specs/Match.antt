@@ -6,8 +6,8 @@ use Rattle.catalogue.specs.Tables.{Table, column_at, cols_from, table_at}
 use Rattle.scope.specs.Scopes.{Hit, column, bound, Only, none, one, more, only_of, in_cols, in_table}
 use Rattle.scope.specs.declared.Found.{Found}
 use Rattle.scope.specs.declared.Found.TheVariants as F
-use Rattle.scope.specs.declared.Matches.{Matches}
-use Rattle.scope.specs.declared.Matches.TheVariants as N
+use Rattle.scope.specs.declared.names.Matches.{Matches}
+use Rattle.scope.specs.declared.names.Matches.TheVariants as N
 
 -- the answer of one scope, whose local (if it has one) has a class of which this is known
 unfoldable pub found_in : Info → Only Hit → Found

@@ -8,4 +8,4 @@ use Rattle.scope.proofs.find.Given as goal
 
 abbrev pub invariant-loop-outward : goal.invariant-loop-outward
 invariant-loop-outward l =
-    found_of (infos_of l.scopes l.depth) (find l.name l.q 0 (scopes_of l.cat l.n l.scopes l.depth)) ≡ scopes_left l.scopes l.cat l.n l.depth l.name l.q l.outward (l.depth - l.outward)
+    found_of (infos_of l.scopes l.depth) (find l.name l.qualifier 0 (scopes_of l.cat l.n l.scopes l.depth)) ≡ scopes_left l.scopes l.cat l.n l.depth l.name l.qualifier l.outward (l.depth - l.outward)

@@ -1,9 +1,9 @@
--- `scope::in_block` meets its contract: a table that has no match, the first that has, a second one.
+-- `scope::names::Lookup::in_block` meets its contract: a table that has no match, the first that has, a second one.
 -- Assumes nothing.
 use native.Mathlib.Omega.{arith}
 use Rattle.scope.proofs.Search.{entries, tabs_none, tabs_one, tabs_two, tabs_more, tabs_done, table_is}
-use Rattle.scope.proofs.in_block.Goals.{in-None, in-One+in-None-found}
-use Rattle.scope.proofs.in_block.Goals as goal
+use Rattle.scope.proofs.names.Lookup.in_block.Goals.{in-None, in-One+in-None-found}
+use Rattle.scope.proofs.names.Lookup.in_block.Goals as goal
 
 pub loop-j-init : goal.loop-j-init
 loop-j-init c = search entries

@@ -1,9 +1,0 @@
--- `scope::in_block` meets its contract. The invariant: what was found is the answer of the tables that were passed.
--- Assumes nothing.
-use Prim.Native.Nat.{min}
-use Rattle.scope.specs.declared.Scope.TheVariants as S
-use Rattle.scope.proofs.Search.{Passed}
-use Rattle.scope.proofs.in_block.Given as goal
-
-abbrev pub invariant-loop-j : goal.invariant-loop-j
-invariant-loop-j l = Passed l.cat l.n (S.Block l.block) (min l.block.count 4) l.name l.q l.outward l.found l.j
