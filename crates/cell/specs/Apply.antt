@@ -90,38 +90,30 @@ ruled p v = cond (leb p 9) (done v) stuck
 
 -- the operators where neither operand is null
 unfoldable pub sum_n : ℕ → ℕ → Value → Value → Res Value
-sum_n op p Null v = stuck
-sum_n op p (Truth b) v = stuck
 sum_n op p (Fixed s m) v =
     bind (as_fixed (Fixed s m)) (λ x.
     bind (as_fixed v) (λ y.
     ruled p (cut_fixed p (max x.0 y.0) (sum_z op (up_to (max x.0 y.0) x.0 x.1) (up_to (max x.0 y.0) y.0 y.1)))))
 sum_n op p (Time m) v = bind (as_interval v) (λ n. done (cut_time (sum_z op m n)))
 sum_n op p (Interval m) v = bind (as_interval v) (λ n. done (cut_interval (sum_z op m n)))
-sum_n op p (Class c) v = stuck
+sum_n op p _ v = stuck
 
 unfoldable pub product_n : ℕ → ℕ → Value → Value → Res Value
-product_n op p Null v = stuck
-product_n op p (Truth b) v = stuck
 product_n op p (Fixed s m) v =
     bind (as_fixed (Fixed s m)) (λ x. bind (as_fixed v) (λ y. ruled p (product_fixed op p x.0 x.1 y.0 y.1)))
-product_n op p (Time m) v = stuck
 product_n op p (Interval m) v = bind (as_fixed v) (λ y. done (product_interval op m y.0 y.1))
-product_n op p (Class c) v = stuck
+product_n op p _ v = stuck
 
 unfoldable pub order_n : ℕ → Value → Value → Res Bool
-order_n op Null v = stuck
-order_n op (Truth b) v = stuck
 order_n op (Fixed s m) v =
     bind (as_fixed (Fixed s m)) (λ x.
     bind (as_fixed v) (λ y.
     done (order_z op (up_to (max x.0 y.0) x.0 x.1) (up_to (max x.0 y.0) y.0 y.1))))
 order_n op (Time m) v = bind (as_time v) (λ n. done (order_z op m n))
 order_n op (Interval m) v = bind (as_interval v) (λ n. done (order_z op m n))
-order_n op (Class c) v = stuck
+order_n op _ v = stuck
 
 unfoldable pub equal_n : Value → Value → Res Bool
-equal_n Null v = stuck
 equal_n (Truth a) v = bind (as_truth v) (λ b. done (beq a b))
 equal_n (Fixed s m) v =
     bind (as_fixed (Fixed s m)) (λ x.
@@ -130,6 +122,7 @@ equal_n (Fixed s m) v =
 equal_n (Time m) v = bind (as_time v) (λ n. done (equal_z m n))
 equal_n (Interval m) v = bind (as_interval v) (λ n. done (equal_z m n))
 equal_n (Class a) v = bind (as_class v) (λ b. done (eqb a b))
+equal_n Null v = stuck
 
 -- what may stand left and right of null, by kind: a wrong kind is stuck beside null too
 abbrev pub sum_takes : ℕ → ℕ → Bool
@@ -151,12 +144,8 @@ equal_v u v = cond (is_null u || is_null v) (done (is_null u && is_null v)) (equ
 
 -- the left operand of and, or decides alone: false and, true or
 unfoldable pub settled : ℕ → Value → Bool
-settled op Null = false
 settled op (Truth b) = (eqb op 5 && not b) || (eqb op 6 && b)
-settled op (Fixed s m) = false
-settled op (Time m) = false
-settled op (Interval m) = false
-settled op (Class c) = false
+settled op _ = false
 
 -- 5 and, 6 or
 unfoldable pub logic_v : ℕ → Value → Value → Res Value

@@ -30,12 +30,8 @@ type_by high low =
 
 -- a type in rule: the digits of a fixed one are
 unfoldable pub in_rule : Ty → Bool
-in_rule Null = true
-in_rule Boolean = true
 in_rule (Fixed p s) = digits_rule p s
-in_rule (Time f) = true
-in_rule (Interval f) = true
-in_rule Class = true
+in_rule _ = true
 
 -- the word of a type
 unfoldable pub word_of : Ty → ℕ
@@ -57,28 +53,17 @@ kind_of Class = 5
 
 -- the digits and the scale of a fixed type, the format of a time or an interval; else 0
 unfoldable pub digits_of : Ty → ℕ
-digits_of Null = 0
-digits_of Boolean = 0
 digits_of (Fixed p s) = p
-digits_of (Time f) = 0
-digits_of (Interval f) = 0
-digits_of Class = 0
+digits_of _ = 0
 
 unfoldable pub scale_of : Ty → ℕ
-scale_of Null = 0
-scale_of Boolean = 0
 scale_of (Fixed p s) = s
-scale_of (Time f) = 0
-scale_of (Interval f) = 0
-scale_of Class = 0
+scale_of _ = 0
 
 unfoldable pub format_of : Ty → ℕ
-format_of Null = 0
-format_of Boolean = 0
-format_of (Fixed p s) = 0
 format_of (Time f) = f
 format_of (Interval f) = f
-format_of Class = 0
+format_of _ = 0
 
 -- two fixed types give the larger p and the larger s
 unfoldable pub wider_of : Ty → Ty → Ty

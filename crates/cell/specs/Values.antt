@@ -33,52 +33,28 @@ pub data HasTy : Ty → Value → Type 0 where
 
 unfoldable pub is_null : Value → Bool
 is_null Null = true
-is_null (Truth b) = false
-is_null (Fixed s m) = false
-is_null (Time m) = false
-is_null (Interval m) = false
-is_null (Class c) = false
+is_null _ = false
 
 -- a value taken as one kind: stuck at a wrong kind, and at null. A fixed value whose scale is above 4 is of a wrong kind too
 unfoldable pub as_truth : Value → Res Bool
-as_truth Null = stuck
 as_truth (Truth b) = done b
-as_truth (Fixed s m) = stuck
-as_truth (Time m) = stuck
-as_truth (Interval m) = stuck
-as_truth (Class c) = stuck
+as_truth _ = stuck
 
 unfoldable pub as_fixed : Value → Res (ℕ × ℤ)
-as_fixed Null = stuck
-as_fixed (Truth b) = stuck
 as_fixed (Fixed s m) = cond (leb s 4) (done (s, m)) stuck
-as_fixed (Time m) = stuck
-as_fixed (Interval m) = stuck
-as_fixed (Class c) = stuck
+as_fixed _ = stuck
 
 unfoldable pub as_time : Value → Res ℤ
-as_time Null = stuck
-as_time (Truth b) = stuck
-as_time (Fixed s m) = stuck
 as_time (Time m) = done m
-as_time (Interval m) = stuck
-as_time (Class c) = stuck
+as_time _ = stuck
 
 unfoldable pub as_interval : Value → Res ℤ
-as_interval Null = stuck
-as_interval (Truth b) = stuck
-as_interval (Fixed s m) = stuck
-as_interval (Time m) = stuck
 as_interval (Interval m) = done m
-as_interval (Class c) = stuck
+as_interval _ = stuck
 
 unfoldable pub as_class : Value → Res ℕ
-as_class Null = stuck
-as_class (Truth b) = stuck
-as_class (Fixed s m) = stuck
-as_class (Time m) = stuck
-as_class (Interval m) = stuck
 as_class (Class c) = done c
+as_class _ = stuck
 
 -- the number of a value's kind, as types have it: 0 null; 6 is none of them
 unfoldable pub kind_v : Value → ℕ
