@@ -1,5 +1,7 @@
 // The operators on values: sums, products, tests, three-valued logic, NOT and CONV.
 // Every public function is total; an operand of a wrong kind gives None.
+#![tactic(auto, unfolding(crate::specs::Values::is_null, crate::specs::Values::kind_v, crate::specs::Values::as_truth, crate::specs::Values::as_fixed, crate::specs::Values::as_time, crate::specs::Values::as_interval, crate::specs::Values::as_class, crate::specs::Apply::or_null, crate::specs::Apply::sum_n, crate::specs::Apply::product_n, crate::specs::Apply::order_n, crate::specs::Apply::equal_n, crate::specs::Apply::equal_v, crate::specs::Apply::settled, crate::specs::Apply::logic_v, crate::specs::Apply::as3, crate::specs::Apply::of3, crate::specs::Apply::as_cond, crate::specs::Apply::negate, crate::specs::Apply::convert, crate::specs::Apply::apply, crate::specs::Res::bind, crate::specs::Res::option_of))]
+
 ghost use Rattle.std.specs.Prelude.{◌≡◌, cond, not, ◌≤◌, max, eqb};
 ghost use Rattle.cell.specs.Res.{bind, done, option_of, stuck};
 ghost use Rattle.cell.specs.Op.{number_of};
@@ -12,7 +14,6 @@ use crate::numbers::{
 };
 use crate::{Op, Outcome, Test, Value};
 
-#[tactic(auto, unfolding(crate::specs::Values::is_null, crate::specs::Values::kind_v, crate::specs::Values::as_truth, crate::specs::Values::as_fixed, crate::specs::Values::as_time, crate::specs::Values::as_interval, crate::specs::Values::as_class, crate::specs::Apply::or_null, crate::specs::Apply::sum_n, crate::specs::Apply::product_n, crate::specs::Apply::order_n, crate::specs::Apply::equal_n, crate::specs::Apply::equal_v, crate::specs::Apply::settled, crate::specs::Apply::logic_v, crate::specs::Apply::as3, crate::specs::Apply::of3, crate::specs::Apply::as_cond, crate::specs::Apply::negate, crate::specs::Apply::convert, crate::specs::Apply::apply, crate::specs::Res::bind, crate::specs::Res::option_of))]
 impl Value {
     /// Whether it is null.
     pub fn is_null(self) -> bool

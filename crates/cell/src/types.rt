@@ -1,5 +1,7 @@
 // Types by the catalogue's words, and the type rules of operators and of IF.
 // Every public function is total.
+#![tactic(auto, unfolding(crate::specs::Types::digits_rule, crate::specs::Types::type_rule, crate::specs::Types::type_by, crate::specs::Types::word_of, crate::specs::Types::kind_of, crate::specs::Types::digits_of, crate::specs::Types::scale_of, crate::specs::Types::format_of, crate::specs::Types::wider_of, crate::specs::Types::sum_type, crate::specs::Types::product_type, crate::specs::Types::logic_type, crate::specs::Types::order_type, crate::specs::Types::equal_type, crate::specs::Types::same_type, crate::specs::Types::limb_type, crate::specs::Types::binop_type, crate::specs::Res::option_of))]
+
 ghost use Rattle.std.specs.Prelude.{◌≡◌, ◌/◌, ◌%◌, ◌≤◌};
 ghost use Rattle.cell.specs.Res.{option_of};
 ghost use Rattle.cell.specs.Types.{binop_type, digits_of, digits_rule, equal_type, format_of, judged_of, kind_of, limb_type, logic_type, order_type, product_type, same_type, scale_of, sum_type, type_by, type_rule, wider_of, word_of};
@@ -7,7 +9,6 @@ ghost use Rattle.cell.specs.Types.{binop_type, digits_of, digits_rule, equal_typ
 use crate::{Judged, Type};
 
 /// Whether so many digits at a scale are in rule.
-#[tactic(auto, unfolding(crate::specs::Types::digits_rule))]
 pub fn digits_rule(p: u8, s: u8) -> bool
     ensures { result ≡ digits_rule p s }
 {
@@ -15,7 +16,6 @@ pub fn digits_rule(p: u8, s: u8) -> bool
 }
 
 /// Whether a word of the catalogue says a type.
-#[tactic(auto, unfolding(crate::specs::Types::type_rule))]
 pub fn type_rule(word: u16) -> bool
     ensures { result ≡ type_rule (word / 256) (word % 256) }
 {
@@ -30,7 +30,6 @@ pub fn type_rule(word: u16) -> bool
 
 // Stays: Null and no Option for a word that says no type: the definition of a column's type says so for every word.
 /// The type that a word of the catalogue says; Null where it says none.
-#[tactic(auto, unfolding(crate::specs::Types::type_by))]
 pub fn type_by(word: u16) -> Type
     ensures { result ≡ type_by (word / 256) (word % 256) }
 {
@@ -49,7 +48,6 @@ impl From<Type> for u16 {
     ghost from_gives = { λ t word. word ≡ word_of t };
 
     /// The word of a type.
-    #[tactic(auto, unfolding(crate::specs::Types::word_of))]
     fn from(t: Type) -> u16 {
         match t {
             Type::Null => 0,
@@ -62,7 +60,6 @@ impl From<Type> for u16 {
     }
 }
 
-#[tactic(auto, unfolding(crate::specs::Types::kind_of, crate::specs::Types::digits_of, crate::specs::Types::scale_of, crate::specs::Types::format_of, crate::specs::Types::wider_of, crate::specs::Types::sum_type, crate::specs::Types::product_type, crate::specs::Types::logic_type, crate::specs::Types::order_type, crate::specs::Types::equal_type, crate::specs::Types::same_type, crate::specs::Types::limb_type, crate::specs::Types::binop_type, crate::specs::Res::option_of))]
 impl Type {
     /// The number of the kind, as the catalogue has it; 0 for null.
     pub fn kind(self) -> u8
