@@ -23,6 +23,5 @@ scaled_bound m k p h = omega (arith, abs_mul m (pos (10 ^ k)), mul-le-mul p (ten
 pub scaled_fits : (m : ℤ) (k : ℕ) → SFits w32 m → k < 10 → SFits w64 (m *ℤ pos (10 ^ k))
 scaled_fits m k f h = fits_abs (omega (arith, scaled_bound m k (abs_fits f) h))
 
-pub ruleset tens = (ten_pos, ten_le, scaled_bound, scaled_fits, abs_fits, to_z-of_z)
-
-pub ruleset products = (ten_pos, mul_fits, quot_fits, to_z-of_z)
+-- what the functions on signed numbers are proved with
+pub ruleset tens = (ten_pos, ten_le, scaled_bound, scaled_fits, mul_fits, quot_fits, abs_fits, to_z-of_z)

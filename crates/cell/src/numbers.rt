@@ -1,5 +1,7 @@
 // Signed numbers: powers of ten, sums, products and quotients of mantissas in 64 bits, and results cut to what holds them.
 // The bounds that the private functions require keep every step within 64 bits.
+#![tactic(auto, using(crate::proofs::Tens::tens), unfolding(crate::specs::Apply::cut_fixed, crate::specs::Apply::cut_time, crate::specs::Apply::cut_interval))]
+
 ghost use Rattle.std.specs.Prelude.{◌≡◌, ◌<◌, ◌≤◌, ◌-◌, ◌^◌, pos, nat_abs, ◌*ℤ◌};
 ghost use Rattle.std.specs.Int.Signed.{quot_z};
 ghost use Rattle.cell.specs.Op.{number_of};
@@ -38,7 +40,6 @@ pub fn power_of_ten(exponent: u8) -> u64
 }
 
 /// 10 to a power, signed.
-#[tactic(auto, using(crate::proofs::Tens::tens))]
 fn signed_power_of_ten(exponent: u8) -> i64
     requires { exponent < 10 }
     ensures { result ≡ pos (10 ^ exponent) }
@@ -47,7 +48,6 @@ fn signed_power_of_ten(exponent: u8) -> i64
 }
 
 /// m times 10^k.
-#[tactic(auto, using(crate::proofs::Tens::tens))]
 pub fn scaled(m: i32, k: u8) -> i64
     requires { k < 10 }
     ensures value { result ≡ m *ℤ pos (10 ^ k) }
@@ -66,7 +66,6 @@ pub fn raised(m: i32, s: u8, t: u8) -> i64
 }
 
 /// m times n, divided by 10^k.
-#[tactic(auto, using(crate::proofs::Tens::products))]
 pub fn product_cut(m: i32, n: i32, k: u8) -> i64
     requires { k < 10 }
     ensures { result ≡ quot_z (m *ℤ n) (pos (10 ^ k)) }
@@ -75,7 +74,6 @@ pub fn product_cut(m: i32, n: i32, k: u8) -> i64
 }
 
 /// m times 10^k, divided by n.
-#[tactic(auto, using(crate::proofs::Tens::tens))]
 pub fn scaled_cut(m: i32, k: u8, n: i32) -> i64
     requires { (k < 10) × (0 < nat_abs n) }
     ensures { result ≡ quot_z (m *ℤ pos (10 ^ k)) n }
@@ -84,7 +82,6 @@ pub fn scaled_cut(m: i32, k: u8, n: i32) -> i64
 }
 
 /// m at scale s brought to the scale r, cut towards zero where that is smaller.
-#[tactic(auto, using(crate::proofs::Tens::tens))]
 pub fn rescaled(m: i32, s: u8, r: u8) -> i64
     requires { (s ≤ 4) × (r ≤ 4) }
     ensures { result ≡ quot_z (m *ℤ pos (10 ^ (r - s))) (pos (10 ^ (s - r))) }
@@ -113,7 +110,6 @@ pub fn in_order(op: Op, a: i64, b: i64) -> bool
 }
 
 /// m at scale s, or null where p digits don't hold it.
-#[tactic(auto, using(crate::proofs::Tens::tens), unfolding(crate::specs::Apply::cut_fixed))]
 pub fn cut_fixed(p: u8, s: u8, m: i64) -> Value
     requires { p < 10 }
     ensures { result ≡ cut_fixed p s m }
@@ -126,7 +122,6 @@ pub fn cut_fixed(p: u8, s: u8, m: i64) -> Value
 }
 
 /// m, or null where 32 bits don't hold it.
-#[tactic(auto, unfolding(crate::specs::Apply::cut_time))]
 pub fn cut_time(m: i64) -> Value
     ensures { result ≡ cut_time m }
 {
@@ -134,7 +129,6 @@ pub fn cut_time(m: i64) -> Value
 }
 
 /// m, or null where 32 bits don't hold it.
-#[tactic(auto, unfolding(crate::specs::Apply::cut_interval))]
 pub fn cut_interval(m: i64) -> Value
     ensures { result ≡ cut_interval m }
 {
