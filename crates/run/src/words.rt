@@ -5,6 +5,8 @@ ghost use Rattle.store.specs.Layout.{files_of};
 ghost use Rattle.word.specs.Refusal.{fine};
 ghost use Rattle.run.specs.Words.{kind_in, op_in, a_in, b_in, c_in, PartsAre, two, three, folds, picks, end_of, EndsAre, part_b, part_c, WordFor, LayIs, LaysAre, WordsAre};
 
+use store::Span;
+
 // The parts of a word.
 pub fn kind_in(w: u64) -> u64
     ensures { result ≡ kind_in w }
@@ -47,12 +49,6 @@ fn word_of(kind: u8, op: u8, a: u16, b: u16, c: u16) -> u64
         + 281474976710656 * (c as u64)
 }
 
-pub fn index(x: u16) -> usize
-    ensures { (result ≡ x) × (result < 65536) }
-{
-    x as usize
-}
-
 // Whether a kind has two children, or three.
 fn has_two(kind: u8) -> bool
     ensures { result ≡ two kind }
@@ -83,7 +79,7 @@ pub fn end_at(ends: &[u16; 8192], i: usize) -> u16
     requires { length ends.now ≡ 8192 }
     ensures { result ≡ get_or ends.now i 0 }
 {
-    if i < 8192 { ends[i] } else { 0 }
+    ends.get(i).copied().unwrap_or(0)
 }
 
 // The end of the tree that stands where the tree at record i ends.
@@ -91,7 +87,7 @@ fn second_end(ends: &[u16; 8192], i: usize) -> u16
     requires { length ends.now ≡ 8192 }
     ensures { result ≡ get_or ends.now (get_or ends.now i 0) 0 }
 {
-    end_at(ends, index(end_at(ends, i)))
+    end_at(ends, usize::from(end_at(ends, i)))
 }
 
 // The end of the tree at record i, by the ends of the trees after it.
@@ -105,12 +101,12 @@ fn end_of(code: &[u8], ends: &[u16; 8192], i: usize) -> u16
         return second_end(ends, next);
     }
     if has_three(kind) {
-        return end_at(ends, index(second_end(ends, next)));
+        return end_at(ends, usize::from(second_end(ends, next)));
     }
     if (kind == 8) | (kind == 22) {
         return end_at(ends, next);
     }
-    let body = next + index(word::a_at(code, i));
+    let body = next + usize::from(word::a_at(code, i));
     if is_fold(kind) {
         return end_at(ends, body);
     }
@@ -126,11 +122,8 @@ pub fn ends_of(code: &[u8], n: usize) -> [u16; 8192]
     ensures { EndsAre code.now n result }
 {
     let mut ends = [0u16; 8192];
-    let mut i = n;
-    while 0 < i {
-        i -= 1;
-        let end = end_of(code, &ends, i);
-        ends[i] = end;
+    for i in (0..n).rev() {
+        ends[i] = end_of(code, &ends, i);
     }
     ends
 }
@@ -146,7 +139,7 @@ fn part_b(code: &[u8], ends: &[u16; 8192], i: usize) -> u16
         return end_at(ends, next);
     }
     if is_pick(kind) {
-        return end_at(ends, next + index(word::a_at(code, i)));
+        return end_at(ends, next + usize::from(word::a_at(code, i)));
     }
     word::b_at(code, i)
 }
@@ -166,7 +159,7 @@ fn lay_at(lays: &[u64; 32], j: usize) -> u64
     requires { length lays.now ≡ 32 }
     ensures { result ≡ get_or lays.now j 0 }
 {
-    if j < 32 { lays[j] } else { 0 }
+    lays.get(j).copied().unwrap_or(0)
 }
 
 // The word of record i.
@@ -178,7 +171,7 @@ fn word_at(code: &[u8], ends: &[u16; 8192], lays: &[u64; 32], i: usize) -> u64
     let op = word::op_at(code, i);
     let a = word::a_at(code, i);
     if kind == 12 {
-        return lay_at(lays, index(a));
+        return lay_at(lays, usize::from(a));
     }
     let b = part_b(code, ends, i);
     let c = part_c(code, ends, i);
@@ -191,23 +184,20 @@ pub fn words_of(code: &[u8], n: usize, ends: &[u16; 8192], lays: &[u64; 32]) -> 
     ensures { WordsAre code.now n ends.now lays.now result }
 {
     let mut words = [0u64; 8192];
-    let mut i: usize = 0;
-    while i < n {
-        let w = word_at(code, ends, lays, i);
-        words[i] = w;
-        i += 1;
+    for i in 0..n {
+        words[i] = word_at(code, ends, lays, i);
     }
     words
 }
 
 // The word of a table, by where its rows stand.
-fn lay_of(first: u16, rec: u16, size: u16, rows: u16) -> u64
-    ensures { LayIs result first rec size rows }
+fn lay_of(span: Span, start: u16) -> u64
+    ensures { LayIs result span.first start span.size span.rows }
 {
-    (first as u64)
-        + 65536 * (rec as u64)
-        + 4294967296 * ((size / 8) as u64)
-        + 281474976710656 * (rows as u64)
+    (span.first as u64)
+        + 65536 * (start as u64)
+        + 4294967296 * ((span.size / 8) as u64)
+        + 281474976710656 * (span.rows as u64)
 }
 
 // The words of the tables of an accepted catalogue and store.
@@ -215,17 +205,13 @@ pub fn lays_of(cat: &[u8], store: &[u8]) -> [u64; 32]
     requires { files_of cat.now store.now ≡ fine tt }
     ensures { LaysAre cat.now store.now result }
 {
-    let n = index(word::u16_at(cat, 6));
-    let tables = index(word::u16_at(store, 6));
-    let spans = store::spans(cat, n, store);
+    let n = usize::from(word::u16_at(cat, 6));
+    let tables = usize::from(word::u16_at(store, 6));
+    let spans = store::table_spans(cat, n, store);
     let starts = catalogue::starts(cat, n);
     let mut lays = [0u64; 32];
-    let mut j: usize = 0;
-    while j < tables {
-        let at = 3 * j;
-        let w = lay_of(spans[at], starts[j], spans[at + 2], spans[at + 1]);
-        lays[j] = w;
-        j += 1;
+    for j in 0..tables {
+        lays[j] = lay_of(spans[j], starts[j]);
     }
     lays
 }

@@ -10,8 +10,8 @@ u16_at-requires c = search lays
 pub u16_at-requires-2 : goal.u16_at-requires-2
 u16_at-requires-2 c = search lays
 
-pub spans-spans-requires : goal.spans-spans-requires
-spans-spans-requires c = (search lays, search lays)
+pub table_spans-spans-requires : goal.table_spans-spans-requires
+table_spans-spans-requires c = (search lays, search lays)
 
 pub starts-starts-requires : goal.starts-starts-requires
 starts-starts-requires c = (search lays, search lays)
@@ -20,7 +20,7 @@ pub loop-j-init : goal.loop-j-init
 loop-j-init c = (laid_none _ _, search lays)
 
 pub loop-j-preserved : goal.loop-j-preserved
-loop-j-preserved c = (laid_more _ _ _ (search rules) _ c.loop-j.invariant.0 _ _ c.u16_at-2.ensures c.index-tables.ensures.0 _ _ _ _ _ c.loop-j-test.true c.u16_at.ensures c.index-n.ensures.0 c.spans-spans.ensures c.starts-starts.ensures c.lay_of-w.ensures, search rules)
+loop-j-preserved c = (laid_more _ _ _ (search rules) _ c.loop-j.invariant.0 _ _ c.u16_at-2.ensures c.from-tables.ensures _ _ _ _ _ c.loop-j-test.true c.u16_at.ensures c.from-n.ensures c.table_spans-spans.ensures c.starts-starts.ensures c.lay_of.ensures, search rules)
 
 pub returns : goal.returns
 returns c = search (laid_all, rules)

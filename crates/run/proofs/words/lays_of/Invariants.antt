@@ -6,6 +6,3 @@ use Rattle.run.proofs.words.lays_of.Given as goal
 
 abbrev pub invariant-loop-j : goal.invariant-loop-j
 invariant-loop-j l = Laid l.cat l.store l.lays l.j × (l.tables ≤ 32)
-
-abbrev pub decreases-loop-j : goal.decreases-loop-j
-decreases-loop-j l = l.tables - l.j

@@ -6,6 +6,3 @@ use Rattle.run.proofs.words.words_of.Given as goal
 
 abbrev pub invariant-loop-i : goal.invariant-loop-i
 invariant-loop-i l = Begun l.code l.n l.ends l.lays l.words l.i
-
-abbrev pub decreases-loop-i : goal.decreases-loop-i
-decreases-loop-i l = l.n - l.i
