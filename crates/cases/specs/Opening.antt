@@ -1,10 +1,8 @@
 -- What stands at the start of a case: 26 bytes, numbers lowest byte first.
 -- Assumes nothing.
-use Rattle.std.specs.Prelude.{ℕ, cond, List, ltb, length}
+use Rattle.std.specs.Prelude.{ℕ, cond, List, Option, Some, None, ltb, length}
 use Rattle.word.specs.Bytes.{u16_at, u32_at}
 use Rattle.cases.specs.declared.Case.{Case}
-use Rattle.cases.specs.declared.Opening.{Opening}
-use Rattle.cases.specs.declared.Opening.TheVariants.{One, End}
 
 -- the job, k and q (16 bits each), the lengths of the two lent buffers, those of catalogue, view and store (32 bits each)
 unfoldable pub case_of : List ℕ → Case
@@ -21,5 +19,5 @@ case_of h =
     }
 
 -- a case, or the end where fewer bytes are left
-unfoldable pub opening_of : List ℕ → Opening
-opening_of h = cond (ltb (length h) 26) End (One (case_of h))
+unfoldable pub opening_of : List ℕ → Option Case
+opening_of h = cond (ltb (length h) 26) None (Some (case_of h))

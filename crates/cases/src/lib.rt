@@ -4,14 +4,13 @@
 
 ghost use Rattle.std.specs.Prelude.{◌≡◌, ◌+◌, ◌*◌, ◌%◌, ◌≤◌, ◌<◌, length};
 ghost use Rattle.lines.specs.Counts.{IsPrefixLen};
-ghost use Rattle.word.specs.Bytes.{u32_at};
 ghost use Rattle.cases.specs.Opening.{opening_of};
-ghost use Rattle.cases.specs.Digest.{digest_of, digest_step, pattern};
+ghost use Rattle.cases.specs.Digest.{digest_of, pattern};
 
 use std::io::Read;
 
-// A case: 1 Translate, 2 Answer; k and q; the lengths of the lent buffers and of the three files.
-#[derive(Clone, Copy)]
+/// A case: the job, 1 Translate, 2 Answer; k and q; the lengths of the lent buffers and of the three files.
+#[derive(Clone, Copy, PartialEq, Eq, Debug)]
 pub struct Case {
     pub job: u16,
     pub k: u16,
@@ -23,69 +22,34 @@ pub struct Case {
     pub store: usize,
 }
 
-// What stands at the start of a case.
-#[derive(Drop)]
-pub enum Opening {
-    One(Case),
-    End,
-}
-
-fn index(x: u32) -> usize
-    ensures { result ≡ x }
-{
-    x as usize
-}
-
-// The 32 bits at a place, as a length.
-fn long_at(head: &[u8], at: usize) -> usize
-    requires { at + 4 ≤ length head.now }
-    ensures { result ≡ u32_at head.now at }
-{
-    index(word::u32_at(head, at))
-}
-
-// The case that 26 bytes open; with fewer the cases are at their end.
-pub fn opening_of(head: &[u8]) -> Opening
+/// The case that 26 bytes open; with fewer the cases are at their end.
+#[tactic(auto, unfolding(crate::specs::Opening::case_of, crate::specs::Opening::opening_of))]
+pub fn opening_of(head: &[u8]) -> Option<Case>
     ensures { result ≡ opening_of head.now }
 {
     if head.len() < 26 {
-        return Opening::End;
+        return None;
     }
-    let job = word::u16_at(head, 0);
-    let k = word::u16_at(head, 2);
-    let q = word::u16_at(head, 4);
-    let tree = long_at(head, 6);
-    let answer = long_at(head, 10);
-    let cat = long_at(head, 14);
-    let view = long_at(head, 18);
-    let store = long_at(head, 22);
-    Opening::One(Case {
-        job,
-        k,
-        q,
-        tree,
-        answer,
-        cat,
-        view,
-        store,
+    Some(Case {
+        job: word::u16_at(head, 0),
+        k: word::u16_at(head, 2),
+        q: word::u16_at(head, 4),
+        tree: word::u32_at(head, 6) as usize,
+        answer: word::u32_at(head, 10) as usize,
+        cat: word::u32_at(head, 14) as usize,
+        view: word::u32_at(head, 18) as usize,
+        store: word::u32_at(head, 22) as usize,
     })
 }
 
-// Zeros for a file of a case. The `ensures` gives the length, which lending it as a slice needs.
-pub fn file() -> [u8; 66000]
-    ensures { 66000 ≡ length result }
+/// Zeros for a file or a lent buffer of a case. The clause gives the length, which lending it as a slice needs.
+pub fn zeros<const N: usize>() -> [u8; N]
+    ensures { N ≡ length result }
 {
-    [0; 66000]
+    [0; N]
 }
 
-// Zeros for a lent buffer of a case.
-pub fn lent() -> [u8; 70000]
-    ensures { 70000 ≡ length result }
-{
-    [0; 70000]
-}
-
-// Reads n bytes of an input to the start of a buffer, and answers how many came; none where the buffer is shorter.
+/// Reads n bytes of an input to the start of a buffer, and answers how many came; none where the buffer is shorter.
 pub fn load<R: Read>(from: &mut R, buf: &mut [u8], n: usize) -> usize
     ensures count { IsPrefixLen result buf.new }
     ensures same_length { length buf.new ≡ length buf.old }
@@ -97,47 +61,23 @@ pub fn load<R: Read>(from: &mut R, buf: &mut [u8], n: usize) -> usize
     }
 }
 
-fn wide(b: u8) -> u64
-    ensures { (result ≡ b) × (result < 256) }
-{
-    b as u64
-}
-
-// The digest, one byte further.
-fn step(h: u64, b: u8) -> u64
-    requires { h < 36028797018963913 }
-    ensures { (result ≡ digest_step h b) × (result < 36028797018963913) }
-{
-    (256 * h + wide(b)) % 36028797018963913
-}
-
-// The digest of a buffer.
+/// The digest of a buffer.
+#[tactic(auto, unfolding(crate::specs::Digest::digest_of))]
 pub fn digest(s: &[u8]) -> u64
     ensures { result ≡ digest_of s.now }
 {
-    let mut h: u64 = 1;
-    let mut i: usize = 0;
-    while i < s.len() {
-        h = step(h, s[i]);
-        i += 1;
+    let mut digest: u64 = 1;
+    for &byte in s {
+        digest = (256 * digest + u64::from(byte)) % 36028797018963913;
     }
-    h
+    digest
 }
 
-// The byte that place i is filled with.
-fn mark(i: usize) -> u8
-    ensures { result ≡ i % 251 }
-{
-    (i % 251) as u8
-}
-
-// Fills a buffer with the pattern.
+/// Fills a buffer with the pattern.
 pub fn fill(buf: &mut [u8])
     ensures { buf.new ≡ pattern (length buf.old) }
 {
-    let mut i: usize = 0;
-    while i < buf.len() {
-        buf[i] = mark(i);
-        i += 1;
+    for (i, byte) in buf.iter_mut().enumerate() {
+        *byte = (i % 251) as u8;
     }
 }

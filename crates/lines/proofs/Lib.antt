@@ -1,4 +1,3 @@
--- The laws of lines and of numbers in a text.
+-- The laws of lines and numbers in a text.
 -- Assumes nothing.
 pub mod Laws
-pub mod Written

@@ -1,10 +1,11 @@
--- `lines::line_start` meets its contract. The loop: what is left of the lines, from here, comes to where the line starts.
+-- `lines::line_start` meets its contract.
 -- Assumes nothing.
-use Rattle.lines.proofs.Laws.{starts}
+use Rattle.std.proofs.Common.{rules, ◌∙◌, sym}
+use Rattle.lines.proofs.Laws.{start_further, start_done}
 use Rattle.lines.proofs.line_start.Goals as goal
 
-pub loop-left-preserved : goal.loop-left-preserved
-loop-left-preserved c = search starts
+pub loop-preserved : goal.loop-preserved
+loop-preserved c = search (start_further, rules)
 
 pub returns : goal.returns
-returns c = search starts
+returns c = (sym (start_done _ _ _ _ c.loop-test.false) ∙ c.loop.invariant.1, c.loop.invariant.0)
