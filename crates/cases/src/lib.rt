@@ -22,6 +22,14 @@ pub struct Case {
     pub store: usize,
 }
 
+/// The files of a case, as far as they came.
+#[derive(Clone, Copy)]
+pub struct Files<'a> {
+    pub cat: &'a [u8],
+    pub view: &'a [u8],
+    pub store: &'a [u8],
+}
+
 /// The case that 26 bytes open; with fewer the cases are at their end.
 #[tactic(auto, unfolding(crate::specs::Opening::case_of, crate::specs::Opening::opening_of))]
 pub fn opening_of(head: &[u8]) -> Option<Case>
@@ -40,13 +48,6 @@ pub fn opening_of(head: &[u8]) -> Option<Case>
         view: word::u32_at(head, 18) as usize,
         store: word::u32_at(head, 22) as usize,
     })
-}
-
-/// Zeros for a file or a lent buffer of a case. The clause gives the length, which lending it as a slice needs.
-pub fn zeros<const N: usize>() -> [u8; N]
-    ensures { N ≡ length result }
-{
-    [0; N]
 }
 
 /// Reads n bytes of an input to the start of a buffer, and answers how many came; none where the buffer is shorter.

@@ -5,7 +5,7 @@
 // writer's own, passed on. What was written before it stays written, and of the writer no more is said, as `std` says no more.
 #![tactic(auto)]
 
-ghost use Rattle.std.specs.Prelude.{◌≡◌, ◌+◌, ◌-◌, ◌*◌, ◌≤◌, ◌<◌, ◌∷◌, [], ◌++◌, length, decimal, OnOk};
+ghost use Rattle.std.specs.Prelude.{◌≡◌, ◌+◌, ◌-◌, ◌*◌, ◌≤◌, ◌<◌, ◌∷◌, [], ◌++◌, length, replicate, decimal, OnOk};
 ghost use Rattle.std.specs.Fmt.{signed_decimal};
 ghost use Rattle.std.specs.Io.KnownBytes.{Appends};
 ghost use Rattle.word.specs.Bytes.{signed32};
@@ -91,6 +91,14 @@ pub fn number_on(text: &[u8], j: usize) -> Option<u16>
     read_number(line(text, j))
 }
 
+/// Zeros for a buffer. The clause gives its length, which lending it as a slice needs where it is over 65,536.
+pub fn zeros<const N: usize>() -> [u8; N]
+    ensures long { N ≡ length result }
+    ensures zero { result ≡ replicate N 0 }
+{
+    [0; N]
+}
+
 /// Reads to the start of a buffer until it is full, the input ends or a read fails, and answers how many bytes came.
 pub fn read_full<R: Read>(from: &mut R, buf: &mut [u8]) -> usize
     ensures count { IsPrefixLen result buf.new }
@@ -143,25 +151,4 @@ pub fn print_refusal<W: Write>(out: &mut W, refusal: Refusal) -> io::Result<()>
     ensures { OnOk result (Appends (W.contents out.old) (W.contents out.new) (decimal (number_of_reason refusal.reason) ++ 32 ∷ decimal refusal.place ++ 10 ∷ [])) }
 {
     writeln!(out, "{} {}", refusal.reason.number(), refusal.place)
-}
-
-// Writes a number.
-pub fn print_number<W: Write>(out: &mut W, n: u64) -> io::Result<()>
-    ensures { OnOk result (Appends (W.contents out.old) (W.contents out.new) (decimal n)) }
-{
-    write!(out, "{n}")
-}
-
-// Writes a space.
-pub fn space<W: Write>(out: &mut W) -> io::Result<()>
-    ensures { OnOk result (Appends (W.contents out.old) (W.contents out.new) (32 ∷ [])) }
-{
-    out.write_all(b" ")
-}
-
-// Writes a line end.
-pub fn end_line<W: Write>(out: &mut W) -> io::Result<()>
-    ensures { OnOk result (Appends (W.contents out.old) (W.contents out.new) (10 ∷ [])) }
-{
-    out.write_all(b"\n")
 }

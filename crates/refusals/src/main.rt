@@ -2,109 +2,68 @@
 // Order: catalogue, store (Answer only), view: its structure, then its names and types. It ends whatever the input is: the cases are counted.
 #![tactic(auto)]
 
-use cases::{Case, Opening};
+use cases::{Case, Files};
 use std::io::{self, Read, Write};
-
-// A refusal: number and place; number 0 for none.
-#[derive(Drop)]
-struct Found {
-    number: u16,
-    place: usize,
-}
-
-fn of_store(cat: &[u8], store: &[u8]) -> Found {
-    match store::check(cat, store) {
-        store::Verdict::Refused(number, place) => Found { number, place },
-        store::Verdict::Fine => Found {
-            number: 0,
-            place: 0,
-        },
-    }
-}
+use word::Refusal;
 
 // The refusal of a view over a catalogue, or of the catalogue: structure, then names and types.
-fn of_view(cat: &[u8], view: &[u8], k: u16) -> Found {
-    match catalogue::check(cat) {
-        catalogue::Verdict::Refused(number, place) => Found { number, place },
-        catalogue::Verdict::Tables(tables) => match view::check(view) {
-            view::Verdict::Refused(number, place) => Found { number, place },
-            view::Verdict::Records(n) => {
-                let nc = word::u16_at(cat, 6) as usize;
-                let starts = catalogue::starts(cat, nc);
-                let f = resolve::Files { nc, tables, n, k };
-                let mut notes = [0u64; 1024];
-                let mut ends = [0u64; 33];
-                match resolve::whole(cat, &starts, view, f, &mut notes, &mut ends) {
-                    resolve::Verdict::Refused(number, place) => Found { number, place },
-                    resolve::Verdict::Fine(_) => Found {
-                        number: 0,
-                        place: 0,
-                    },
-                }
-            }
-        },
+fn of_view(cat: &[u8], view: &[u8], k: u16) -> Result<(), Refusal> {
+    let tables = catalogue::check(cat)?;
+    let n = view::check(view)?;
+    let nc = usize::from(word::u16_at(cat, 6));
+    let starts = catalogue::starts(cat, nc);
+    let f = resolve::Files { nc, tables, n, k };
+    let mut notes = [0u64; 1024];
+    let mut ends = [0u64; 33];
+    resolve::whole(cat, &starts, view, f, &mut notes, &mut ends)?;
+    Ok(())
+}
+
+// The first refusal of a case's job: 1 Translate, 2 Answer.
+fn first(case: Case, files: Files) -> Result<(), Refusal> {
+    if case.job == 2 {
+        store::check(files.cat, files.store)?;
     }
-}
-
-// The first refusal of a job: 1 Translate, 2 Answer.
-fn first(job: u16, k: u16, cat: &[u8], view: &[u8], store: &[u8]) -> Found {
-    if job == 2 {
-        let files = of_store(cat, store);
-        if files.number != 0 {
-            return files;
-        }
-    }
-    of_view(cat, view, k)
-}
-
-fn wide(x: u16) -> u64 {
-    x as u64
-}
-
-fn long(x: usize) -> u64 {
-    x as u64
-}
-
-fn show<W: Write>(to: &mut W, f: Found) -> io::Result<()> {
-    lines::print_number(to, wide(f.number))?;
-    lines::space(to)?;
-    lines::print_number(to, long(f.place))?;
-    lines::end_line(to)
+    of_view(files.cat, files.view, case.k)
 }
 
 // Reads the files of a case and shows its refusal.
 fn run<R: Read, W: Write>(from: &mut R, to: &mut W, case: Case) -> io::Result<()> {
-    let mut cat = cases::file();
-    let mut view = cases::file();
-    let mut store = cases::file();
+    let mut cat: [u8; 66000] = lines::zeros();
+    let mut view: [u8; 66000] = lines::zeros();
+    let mut store: [u8; 66000] = lines::zeros();
     let c = cases::load(from, &mut cat, case.cat);
     let v = cases::load(from, &mut view, case.view);
     let s = cases::load(from, &mut store, case.store);
-    show(
-        to,
-        first(case.job, case.k, &cat[..c], &view[..v], &store[..s]),
-    )
+    let files = Files {
+        cat: &cat[..c],
+        view: &view[..v],
+        store: &store[..s],
+    };
+    match first(case, files) {
+        Ok(()) => writeln!(to, "0 0"),
+        Err(refusal) => lines::print_refusal(to, refusal),
+    }
 }
 
 // One case; whether there was one.
 fn turn<R: Read, W: Write>(from: &mut R, to: &mut W) -> io::Result<bool> {
     let mut head = [0u8; 26];
     let n = lines::read_full(from, &mut head);
-    match cases::opening_of(&head[..n]) {
-        Opening::One(case) => {
-            run(from, to, case)?;
-            Ok(true)
-        }
-        Opening::End => Ok(false),
-    }
+    let Some(case) = cases::opening_of(&head[..n]) else {
+        return Ok(false);
+    };
+    run(from, to, case)?;
+    Ok(true)
 }
 
 fn main(rt: HostRuntime) -> io::Result<()> {
     let mut from = rt.reader();
     let mut to = io::writer(&rt);
-    let mut turns: u32 = 100000;
-    while turns > 0 && turn(&mut from, &mut to)? {
-        turns -= 1;
+    for _ in 0..100000 {
+        if !turn(&mut from, &mut to)? {
+            break;
+        }
     }
     Ok(())
 }

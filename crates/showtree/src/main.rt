@@ -5,59 +5,17 @@
 // any that is accepted, the bytes that fit the buffer are refused as the whole file is.
 #![tactic(auto)]
 
-ghost use Rattle.std.specs.Prelude.{◌+◌, ◌*◌, ◌≤◌, length};
-
-use lines::Number;
 use std::io::{self, Write};
 use std::rt::Files;
+use word::Record;
 
-fn wide(x: u16) -> u64 {
-    x as u64
-}
-
-fn small(x: u8) -> u64 {
-    x as u64
-}
-
-fn long(x: usize) -> u64 {
-    x as u64
-}
-
-// Writes record i of a tree.
-fn record<W: Write>(to: &mut W, tree: &[u8], i: usize) -> io::Result<()>
-    requires { 8 + 8 * i + 8 ≤ length tree.now }
-{
-    let r = word::rec_at(tree, i);
-    lines::print_number(to, small(r.kind))?;
-    lines::space(to)?;
-    lines::print_number(to, small(r.op))?;
-    lines::space(to)?;
-    lines::print_number(to, wide(r.a))?;
-    lines::space(to)?;
-    lines::print_number(to, wide(r.b))?;
-    lines::space(to)?;
-    lines::print_number(to, wide(r.c))?;
-    lines::end_line(to)
-}
-
-// Writes so many records of a tree.
+// Writes so many records of a tree, as far as it has them.
 fn records<W: Write>(to: &mut W, tree: &[u8], count: usize) -> io::Result<()> {
-    let mut i: usize = 0;
-    while i < count {
-        if tree.len() / 8 < i + 2 {
-            return Ok(());
-        }
-        record(to, tree, i)?;
-        i += 1;
+    for i in 0..count.min((tree.len() / 8).saturating_sub(1)) {
+        let Record { kind, op, a, b, c } = word::record_at(tree, i);
+        writeln!(to, "{kind} {op} {a} {b} {c}")?;
     }
     Ok(())
-}
-
-fn refusal<W: Write>(to: &mut W, number: u16, place: usize) -> io::Result<()> {
-    lines::print_number(to, wide(number))?;
-    lines::space(to)?;
-    lines::print_number(to, long(place))?;
-    lines::end_line(to)
 }
 
 fn show<R: Files, W: Write>(rt: &R, to: &mut W, text: &[u8], k: u16, q: u16) -> io::Result<()> {
@@ -66,26 +24,17 @@ fn show<R: Files, W: Write>(rt: &R, to: &mut W, text: &[u8], k: u16, q: u16) -> 
     let mut tree = [0u8; 65536];
     let c = lines::load_on(rt, text, 0, &mut cat);
     let v = lines::load_on(rt, text, 1, &mut view);
-    let r = filter::translate(&cat[..c], &view[..v], k, q, &mut tree);
-    if r.number == 0 {
-        records(to, &tree, r.count)
-    } else {
-        refusal(to, r.number, r.place)
+    match filter::translate(&cat[..c], &view[..v], k, q, &mut tree) {
+        Ok(count) => records(to, &tree, count),
+        Err(refusal) => lines::print_refusal(to, refusal),
     }
 }
 
-fn bad<W: Write>(to: &mut W) -> io::Result<()> {
-    to.write_all(b"k and q: a number from 0 to 65535 each, on lines 3 and 4\n")
-}
-
 fn run<R: Files, W: Write>(rt: &R, to: &mut W, text: &[u8]) -> io::Result<()> {
-    let Number::Is(k) = lines::number_on(text, 2) else {
-        return bad(to);
-    };
-    let Number::Is(q) = lines::number_on(text, 3) else {
-        return bad(to);
-    };
-    show(rt, to, text, k, q)
+    match (lines::number_on(text, 2), lines::number_on(text, 3)) {
+        (Some(k), Some(q)) => show(rt, to, text, k, q),
+        _ => writeln!(to, "k and q: a number from 0 to 65535 each, on lines 3 and 4"),
+    }
 }
 
 fn main(rt: HostRuntime) -> io::Result<()> {

@@ -2,123 +2,88 @@
 // each filled with a pattern before. It ends whatever the input is: the cases are counted.
 #![tactic(auto)]
 
-use cases::{Case, Opening};
+use cases::{Case, Files};
 use std::io::{self, Read, Write};
-
-fn wide(x: u16) -> u64 {
-    x as u64
-}
-
-fn long(x: usize) -> u64 {
-    x as u64
-}
+use word::Refusal;
 
 // Writes what a job gave back, and the digests of the tree's and of the answer's buffer.
-fn show<W: Write>(to: &mut W, r: filter::Result, tree: u64, out: u64) -> io::Result<()> {
-    lines::print_number(to, wide(r.number))?;
-    lines::space(to)?;
-    lines::print_number(to, long(r.place))?;
-    lines::space(to)?;
-    lines::print_number(to, long(r.count))?;
-    lines::space(to)?;
-    write!(to, "{tree:014x}")?;
-    lines::space(to)?;
-    write!(to, "{out:014x}")?;
-    lines::end_line(to)
+fn show<W: Write>(
+    to: &mut W,
+    result: Result<usize, Refusal>,
+    tree: u64,
+    out: u64,
+) -> io::Result<()> {
+    let (number, place, count) = match result {
+        Ok(count) => (0, 0, count),
+        Err(refusal) => (refusal.reason.number(), refusal.place, 0),
+    };
+    writeln!(to, "{number} {place} {count} {tree:014x} {out:014x}")
 }
 
 // The result of a case's job.
-fn result(
-    case: Case,
-    cat: &[u8],
-    view: &[u8],
-    store: &[u8],
-    tree: &mut [u8],
-    out: &mut [u8],
-) -> filter::Result {
-    let job = case.job;
-    if job == 1 {
-        return filter::translate(cat, view, case.k, case.q, tree);
+fn result(case: Case, files: Files, tree: &mut [u8], out: &mut [u8]) -> Result<usize, Refusal> {
+    if case.job == 1 {
+        filter::translate(files.cat, files.view, case.k, case.q, tree)
+    } else {
+        filter::answer(files.cat, files.view, case.k, case.q, tree, files.store, out)
     }
-    filter::answer(cat, view, case.k, case.q, tree, store, out)
 }
 
-// Runs a case's job over filled buffers.
-fn filled<W: Write>(
-    to: &mut W,
-    case: Case,
-    cat: &[u8],
-    view: &[u8],
-    store: &[u8],
-    tree: &mut [u8],
-    out: &mut [u8],
-) -> io::Result<()> {
-    cases::fill(tree);
-    cases::fill(out);
-    let r = result(case, cat, view, store, tree, out);
-    show(to, r, cases::digest(tree), cases::digest(out))
-}
-
-// Runs a case over buffers of the lengths that it asks.
+// Runs a case over buffers of the lengths that it asks, filled before; nothing where they are longer than the buffers lent here.
 fn cut<W: Write>(
     to: &mut W,
     case: Case,
-    cat: &[u8],
-    view: &[u8],
-    store: &[u8],
+    files: Files,
     tree: &mut [u8],
     out: &mut [u8],
 ) -> io::Result<()> {
-    let t = case.tree;
-    let a = case.answer;
-    if t <= tree.len() {
-        if a <= out.len() {
-            return filled(to, case, cat, view, store, &mut tree[..t], &mut out[..a]);
-        }
+    if case.tree > tree.len() || case.answer > out.len() {
+        return Ok(());
     }
-    Ok(())
+    let tree = &mut tree[..case.tree];
+    let out = &mut out[..case.answer];
+    cases::fill(tree);
+    cases::fill(out);
+    let result = result(case, files, tree, out);
+    show(to, result, cases::digest(tree), cases::digest(out))
 }
 
 // Reads the files of a case and runs it.
 fn run<R: Read, W: Write>(from: &mut R, to: &mut W, case: Case) -> io::Result<()> {
-    let mut cat = cases::file();
-    let mut view = cases::file();
-    let mut store = cases::file();
-    let mut tree = cases::lent();
-    let mut out = cases::lent();
+    let mut cat: [u8; 66000] = lines::zeros();
+    let mut view: [u8; 66000] = lines::zeros();
+    let mut store: [u8; 66000] = lines::zeros();
+    let mut tree: [u8; 70000] = lines::zeros();
+    let mut out: [u8; 70000] = lines::zeros();
     let c = cases::load(from, &mut cat, case.cat);
     let v = cases::load(from, &mut view, case.view);
     let s = cases::load(from, &mut store, case.store);
-    cut(
-        to,
-        case,
-        &cat[..c],
-        &view[..v],
-        &store[..s],
-        &mut tree,
-        &mut out,
-    )
+    let files = Files {
+        cat: &cat[..c],
+        view: &view[..v],
+        store: &store[..s],
+    };
+    cut(to, case, files, &mut tree, &mut out)
 }
 
 // One case; whether there was one.
 fn turn<R: Read, W: Write>(from: &mut R, to: &mut W) -> io::Result<bool> {
     let mut head = [0u8; 26];
     let n = lines::read_full(from, &mut head);
-    match cases::opening_of(&head[..n]) {
-        Opening::One(case) => {
-            run(from, to, case)?;
-            Ok(true)
-        }
-        Opening::End => Ok(false),
-    }
+    let Some(case) = cases::opening_of(&head[..n]) else {
+        return Ok(false);
+    };
+    run(from, to, case)?;
+    Ok(true)
 }
 
 fn main(rt: HostRuntime) -> io::Result<()> {
     let mut from = rt.reader();
     let mut to = io::writer(&rt);
-    let mut turns: u32 = 100000;
-    while turns > 0 && turn(&mut from, &mut to)? {
-        turns -= 1;
+    for _ in 0..100000 {
+        if !turn(&mut from, &mut to)? {
+            break;
+        }
     }
     Ok(())
 }

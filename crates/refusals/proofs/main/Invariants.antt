@@ -1,6 +1,0 @@
--- `refusals::main` is safe and ends. The measure is the number of turns that are left.
--- Assumes nothing.
-use Rattle.refusals.proofs.main.Given as goal
-
-abbrev pub decreases-loop-turns : goal.decreases-loop-turns
-decreases-loop-turns l = l.turns
