@@ -57,7 +57,10 @@ fn show<R: Files, W: Write>(rt: &R, to: &mut W, text: &[u8], k: u16, q: u16) -> 
 fn run<R: Files, W: Write>(rt: &R, to: &mut W, text: &[u8]) -> io::Result<()> {
     match (lines::number_on(text, 2), lines::number_on(text, 3)) {
         (Some(k), Some(q)) => show(rt, to, text, k, q),
-        _ => writeln!(to, "k and q: a number from 0 to 65535 each, on lines 3 and 4"),
+        _ => writeln!(
+            to,
+            "k and q: a number from 0 to 65535 each, on lines 3 and 4"
+        ),
     }
 }
 

@@ -9,23 +9,31 @@ use word::Refusal;
 // Writes what a job gave back, and the digests of the tree's and of the answer's buffer.
 fn show<W: Write>(
     to: &mut W,
-    result: Result<usize, Refusal>,
+    given: Result<usize, Refusal>,
     tree: u64,
     out: u64,
 ) -> io::Result<()> {
-    let (number, place, count) = match result {
+    let (number, place, count) = match given {
         Ok(count) => (0, 0, count),
         Err(refusal) => (refusal.reason.number(), refusal.place, 0),
     };
     writeln!(to, "{number} {place} {count} {tree:014x} {out:014x}")
 }
 
-// The result of a case's job.
-fn result(case: Case, files: Files, tree: &mut [u8], out: &mut [u8]) -> Result<usize, Refusal> {
+// What a case's job gives back.
+fn job(case: Case, files: Files, tree: &mut [u8], out: &mut [u8]) -> Result<usize, Refusal> {
     if case.job == 1 {
         filter::translate(files.cat, files.view, case.k, case.q, tree)
     } else {
-        filter::answer(files.cat, files.view, case.k, case.q, tree, files.store, out)
+        filter::answer(
+            files.cat,
+            files.view,
+            case.k,
+            case.q,
+            tree,
+            files.store,
+            out,
+        )
     }
 }
 
@@ -44,8 +52,8 @@ fn cut<W: Write>(
     let out = &mut out[..case.answer];
     cases::fill(tree);
     cases::fill(out);
-    let result = result(case, files, tree, out);
-    show(to, result, cases::digest(tree), cases::digest(out))
+    let given = job(case, files, tree, out);
+    show(to, given, cases::digest(tree), cases::digest(out))
 }
 
 // Reads the files of a case and runs it.
