@@ -227,17 +227,16 @@ fn table(reader: &mut Reader<'_>, depth: u16) -> Result<(), Refusal>
     ensures view { reader.new.view ≡ reader.old.view }
     ensures count { reader.new.count ≡ reader.old.count }
 {
-    let place = reader.place;
     let Node::Table(_) = reader.peek()? else {
         return Err(Refusal {
             reason: Reason::WrongPlace,
-            place,
+            place: reader.place,
         });
     };
     if depth == 0 {
         return Err(Refusal {
             reason: Reason::TooDeep,
-            place,
+            place: reader.place,
         });
     }
     reader.next();
@@ -251,7 +250,7 @@ fn tables(reader: &mut Reader<'_>, count: u16, depth: u16) -> Result<(), Refusal
     ensures view { reader.new.view ≡ reader.old.view }
     ensures count { reader.new.count ≡ reader.old.count }
 {
-    for i in 0..count {
+    for _ in 0..count {
         table(reader, depth)?;
     }
     Ok(())
@@ -265,17 +264,16 @@ fn value(reader: &mut Reader<'_>, depth: u16) -> Result<(), Refusal>
     ensures view { reader.new.view ≡ reader.old.view }
     ensures count { reader.new.count ≡ reader.old.count }
 {
-    let place = reader.place;
     let Some(shape) = reader.peek()?.shape() else {
         return Err(Refusal {
             reason: Reason::WrongPlace,
-            place,
+            place: reader.place,
         });
     };
     if depth == 0 {
         return Err(Refusal {
             reason: Reason::TooDeep,
-            place,
+            place: reader.place,
         });
     }
     reader.next();
@@ -293,7 +291,7 @@ fn values(reader: &mut Reader<'_>, count: u16, depth: u16) -> Result<(), Refusal
     ensures view { reader.new.view ≡ reader.old.view }
     ensures count { reader.new.count ≡ reader.old.count }
 {
-    for i in 0..count {
+    for _ in 0..count {
         value(reader, depth)?;
     }
     Ok(())

@@ -14,10 +14,10 @@ decreases-value l = l.depth + l.depth + l.depth
 abbrev pub decreases-values : goal.decreases-values
 decreases-values l = l.depth + l.depth + l.depth + 1
 
-abbrev pub invariant-values-loop-i : goal.invariant-values-loop-i
-invariant-values-loop-i l = record {
+abbrev pub invariant-values-loop : goal.invariant-values-loop
+invariant-values-loop l = record {
   left : place_of (many (parse_value l.fn.reader.view.now l.fn.reader.count l.depth) l.count l.fn.reader.place)
-      ≡ place_of (many (parse_value l.fn.reader.view.now l.fn.reader.count l.depth) (l.count - l.i) l.reader.place);
+      ≡ place_of (many (parse_value l.fn.reader.view.now l.fn.reader.count l.depth) (l.count - l.counter) l.reader.place);
   view : l.reader.view ≡ l.fn.reader.view;
   count : l.reader.count ≡ l.fn.reader.count;
 }
