@@ -94,8 +94,8 @@ pub fn find(
         name,
         qualifier,
     };
-    for outward in 0..depth {
-        match lookup.in_scope(&scopes[depth - outward - 1], outward as u16) {
+    for (outward, scope) in scopes[..depth].iter().rev().enumerate() {
+        match lookup.in_scope(scope, outward as u16) {
             Found::None => {}
             found => return found,
         }
