@@ -1,5 +1,5 @@
 // Types and values of cells, the type rules, and the operators on values.
-// Every public function is total; an operand of a wrong kind gives the outcome Stuck.
+// Every public function is total; an operand of a wrong kind gives None.
 #![tactic(auto)]
 
 mod numbers;
@@ -26,7 +26,7 @@ pub enum Type {
     Class,
 }
 
-// A type that a rule gives, or Broken where it gives none.
+/// A type that a rule gives, or Broken where it gives none.
 #[derive(Drop)]
 pub enum Judged {
     Is(Type),
@@ -50,7 +50,7 @@ pub enum Outcome {
     Is(Value),
 }
 
-// The outcome of a condition.
+/// The outcome of a condition.
 #[derive(Drop)]
 pub enum Test {
     Stuck,
