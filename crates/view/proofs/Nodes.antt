@@ -1,28 +1,18 @@
 -- What a record says, by its kind: one law for each way out of the code that decodes it, for `search nodes`.
 -- Assumes nothing.
-use Prim.Native.Nat.{ℕ, ◌+◌, ◌-◌, ◌*◌, ◌/◌, ◌%◌, ◌^◌, ◌≤◌, ◌<◌}
+use Prim.Native.Nat.{ℕ, ◌≤◌, ◌<◌}
 use mathlib.Core.Path.{◌≡◌, sym, ◌∙◌}
-use mathlib.Core.List.{List}
-use mathlib.Core.Bool.{Bool, true, false, ◌&&◌, and-false}
+use mathlib.Core.Bool.{Bool, true, ◌&&◌, and-false}
 use native.Mathlib.Omega.{arith}
-use native.Mathlib.Nat.{le_antisymm}
-use borrow.Author.Tests.{le-leb, lt-leb, ne_eqb, leb-true}
-use borrow.Author.Rules.{rules}
-use lib.Dec.{eqb, leb, ltb}
-use lib.IntN.{ℤ, nat_abs}
-use Rattle.word.specs.Bytes.{signed32, within}
-use Rattle.word.specs.Record.{Record, kind_at, op_at, a_at, b_at, c_at, rec_at}
-use Rattle.word.proofs.Laws.{signed_low, signed_high}
+use borrow.Author.Tests.{lt-leb, ne_eqb, leb-true}
+use lib.Dec.{eqb, leb}
+use Rattle.word.specs.Bytes.{within}
+use Rattle.word.specs.Record.{Record}
 use Rattle.cell.specs.Types.{digits_rule}
-use Rattle.cell.specs.Values.{digits}
-use Rattle.cell.specs.declared.Type.TheVariants as T
-use Rattle.cell.specs.declared.Value.TheVariants as X
-use Rattle.view.specs.Record.{rec, when, bare, op_only, a_only, counts, value_in, const_of, node_of}
+use Rattle.view.specs.Record.{when, op_only, a_only, node_of}
 use Rattle.view.specs.declared.Node.{Node}
-use Rattle.view.specs.declared.Fold.TheVariants as fold
-use Rattle.view.specs.declared.Pick.TheVariants as pick
-use Rattle.view.specs.declared.Node.TheVariants.{Const, Binop, Not, If, Exists, Single, Table, Select, Col, Classof, Let, Bad}
-use Rattle.view.proofs.Laws.{above, and_left, and_right}
+use Rattle.view.specs.declared.Node.TheVariants.{Binop, Table, Col, Classof, Let, Bad}
+use Rattle.view.proofs.Laws.{and_left, and_right}
 
 -- p is at most 9 where (p, s) is in rule
 pub rule_few : (p s : ℕ) {o : Bool} → o ≡ digits_rule p s → o ≡ true → p ≤ 9

@@ -1,12 +1,12 @@
 -- One law for each place of the walk: its premises are what the code has found there, its conclusion is what is asked there. For `search turns`.
 -- Assumes nothing.
 use Prim.Native.Nat.{ℕ, ◌+◌, ◌-◌, ◌*◌, ◌<◌, ◌≤◌}
-use mathlib.Core.Path.{◌≡◌, refl, sym, ap, ◌∙◌}
-use mathlib.Core.Bool.{Bool, true, false, cond, ◌&&◌}
+use mathlib.Core.Path.{◌≡◌, sym, ap, ◌∙◌}
+use mathlib.Core.Bool.{Bool, true, false, ◌&&◌}
 use mathlib.Core.List.{List}
 use native.Mathlib.Omega.{arith}
 use lib.ListN.{length}
-use lib.Dec.{eqb, leb}
+use lib.Dec.{eqb}
 use borrow.Author.Rules.{rules}
 use borrow.Author.Tests.{eq-eqb, ne_eqb, lt-ltb, le-ltb, eqb-true}
 use Rattle.std.specs.Prelude.{Option, Some, None}
@@ -17,7 +17,7 @@ use Rattle.word.specs.Refusal.{Checked, fine, refusal}
 use Rattle.word.proofs.Laws.{headed_long}
 use Rattle.view.specs.Ast.{Exp, Parsed, and_then, ok}
 use Rattle.view.specs.Record.{node_of, node_at, slot_of, shape_of, in_rule}
-use Rattle.view.specs.Parse.{enter, many, parse_table, parse_block, parse_node, parse_value, parse_root, parse_view, peek_of, place_of, check_of}
+use Rattle.view.specs.Parse.{enter, many, parse_table, parse_block, parse_value, parse_root, parse_view, peek_of, place_of, check_of}
 use Rattle.view.specs.declared.Shape.{Shape}
 use Rattle.view.specs.declared.Shape.TheVariants.{Values, Block}
 use Rattle.view.specs.declared.Node.{Node}

@@ -4,18 +4,17 @@ use Prim.Native.Nat.{ℕ, ◌+◌, ◌*◌, ◌≤◌}
 use mathlib.Core.Path.{◌≡◌, refl, sym, ap, ◌∙◌}
 use mathlib.Core.Bool.{◌&&◌}
 use mathlib.Core.List.{List}
-use native.Mathlib.Omega.{arith}
 use lib.ListN.{length}
 use lib.Dec.{eqb, leb}
 use borrow.Author.Tests.{eqb-true, leb-true}
 use Rattle.word.specs.Bytes.{within}
 use Rattle.word.specs.Refusal.{Checked, fine, refusal}
 use Rattle.word.specs.Header.{drq, headed, count_at}
-use Rattle.view.specs.Ast.{Block, Parsed, ok, refused, WasRead}
+use Rattle.view.specs.Ast.{Block, ok, refused, WasRead}
 use Rattle.view.specs.Record.{node_at, slot_of}
 use Rattle.view.specs.Parse.{enter, parse_block, parse_value, root_node, parse_root, parse_view, place_of, check_of}
 use Rattle.view.specs.declared.Node.{Node}
-use Rattle.view.specs.declared.Node.TheVariants.{Const, Binop, Not, If, Exists, Single, Table, Select, Col, Classof, Let, Bad}
+use Rattle.view.specs.declared.Node.TheVariants.{Select}
 use Rattle.view.proofs.Laws.{and_left, and_right, cond_refused, then_ok, enter_ok, place_fine, place_refusal}
 use Rattle.view.proofs.Says.{select_few}
 use Rattle.view.proofs.Shapes.{slot_select}
