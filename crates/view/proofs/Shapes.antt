@@ -16,82 +16,79 @@ use Rattle.view.specs.declared.Node.{Node}
 use Rattle.view.specs.declared.Node.TheVariants.{Const, Binop, Not, If, Exists, Single, Table, Select, Col, Classof, Let, Bad}
 use Rattle.view.proofs.Laws.{place_map, one_place, two_place, three_place}
 
+-- where a node may stand
+data Stands : Node → Type 0 where
+  in_value : {x : Node} (s : Shape) → slot_of x ≡ 1 → shape_of x ≡ Some s → Stands x
+  in_table : (name : ℕ) → Stands (Table name)
+  in_root : (a b : ℕ) → Stands (Select a b)
+  nowhere : Stands Bad
+
+stands : (x : Node) → Stands x
+unfolding slot_of shape_of
+stands (Const t v) = in_value _ refl refl
+stands (Binop op) = in_value _ refl refl
+stands Not = in_value _ refl refl
+stands If = in_value _ refl refl
+stands (Exists a q) = in_value _ refl refl
+stands (Single a q) = in_value _ refl refl
+stands (Table name) = in_table name
+stands (Select a b) = in_root a b
+stands (Col name q) = in_value _ refl refl
+stands (Classof name q) = in_value _ refl refl
+stands (Let name) = in_value _ refl refl
+stands Bad = nowhere
+
 -- a node that has a shape may stand in a value's place, and no other
 pub is_value : (x : Node) {s : Shape} → Some s ≡ shape_of x → slot_of x ≡ 1
-unfolding slot_of shape_of
-is_value (Const t v) e = refl
-is_value (Binop op) e = refl
-is_value Not e = refl
-is_value If e = refl
-is_value (Exists a q) e = refl
-is_value (Single a q) e = refl
-is_value (Table name) e = absurd (let h : ◌≡◌ {A = ℕ} 0 1 = cc in omega arith)
-is_value (Select a b) e = absurd (let h : ◌≡◌ {A = ℕ} 0 1 = cc in omega arith)
-is_value (Col name q) e = refl
-is_value (Classof name q) e = refl
-is_value (Let name) e = refl
-is_value Bad e = absurd (let h : ◌≡◌ {A = ℕ} 0 1 = cc in omega arith)
+unfolding shape_of
+is_value x {s} e = by (stands x) e
+  where
+    by : {y : Node} → Stands y → Some s ≡ shape_of y → slot_of y ≡ 1
+    by (in_value t z f) g = z
+    by (in_table name) g = absurd (let h : ◌≡◌ {A = ℕ} 0 1 = cc in omega arith)
+    by (in_root a b) g = absurd (let h : ◌≡◌ {A = ℕ} 0 1 = cc in omega arith)
+    by nowhere g = absurd (let h : ◌≡◌ {A = ℕ} 0 1 = cc in omega arith)
 
 pub no_value : (x : Node) → None ≡ shape_of x → slot_of x ≡ 1 → ⊥
-unfolding slot_of shape_of
-no_value (Const t v) e f = let h : ◌≡◌ {A = ℕ} 0 1 = cc in omega arith
-no_value (Binop op) e f = let h : ◌≡◌ {A = ℕ} 0 1 = cc in omega arith
-no_value Not e f = let h : ◌≡◌ {A = ℕ} 0 1 = cc in omega arith
-no_value If e f = let h : ◌≡◌ {A = ℕ} 0 1 = cc in omega arith
-no_value (Exists a q) e f = let h : ◌≡◌ {A = ℕ} 0 1 = cc in omega arith
-no_value (Single a q) e f = let h : ◌≡◌ {A = ℕ} 0 1 = cc in omega arith
-no_value (Table name) e f = omega arith
-no_value (Select a b) e f = omega arith
-no_value (Col name q) e f = let h : ◌≡◌ {A = ℕ} 0 1 = cc in omega arith
-no_value (Classof name q) e f = let h : ◌≡◌ {A = ℕ} 0 1 = cc in omega arith
-no_value (Let name) e f = let h : ◌≡◌ {A = ℕ} 0 1 = cc in omega arith
-no_value Bad e f = omega arith
+unfolding slot_of
+no_value x e f = by (stands x) e f
+  where
+    by : {y : Node} → Stands y → None ≡ shape_of y → slot_of y ≡ 1 → ⊥
+    by (in_value t z f) g h = let i : ◌≡◌ {A = ℕ} 0 1 = cc in omega arith
+    by (in_table name) g h = omega arith
+    by (in_root a b) g h = omega arith
+    by nowhere g h = omega arith
 
 -- a bad node, a table's and the root's
 pub slot_bad : (x : Node) → slot_of x ≡ 0 → x ≡ Bad
 unfolding slot_of
-slot_bad (Const t v) e = absurd (omega arith)
-slot_bad (Binop op) e = absurd (omega arith)
-slot_bad Not e = absurd (omega arith)
-slot_bad If e = absurd (omega arith)
-slot_bad (Exists a q) e = absurd (omega arith)
-slot_bad (Single a q) e = absurd (omega arith)
-slot_bad (Table name) e = absurd (omega arith)
-slot_bad (Select a b) e = absurd (omega arith)
-slot_bad (Col name q) e = absurd (omega arith)
-slot_bad (Classof name q) e = absurd (omega arith)
-slot_bad (Let name) e = absurd (omega arith)
-slot_bad Bad e = refl
+slot_bad x e = by (stands x) e
+  where
+    by : {y : Node} → Stands y → slot_of y ≡ 0 → y ≡ Bad
+    by (in_value s z f) g = absurd (omega arith)
+    by (in_table name) g = absurd (omega arith)
+    by (in_root a b) g = absurd (omega arith)
+    by nowhere g = refl
 
 pub slot_table : (x : Node) → slot_of x ≡ 2 → (name : ℕ) × (x ≡ Table name)
 unfolding slot_of
-slot_table (Const t v) e = absurd (omega arith)
-slot_table (Binop op) e = absurd (omega arith)
-slot_table Not e = absurd (omega arith)
-slot_table If e = absurd (omega arith)
-slot_table (Exists a q) e = absurd (omega arith)
-slot_table (Single a q) e = absurd (omega arith)
-slot_table (Table name) e = (name, refl)
-slot_table (Select a b) e = absurd (omega arith)
-slot_table (Col name q) e = absurd (omega arith)
-slot_table (Classof name q) e = absurd (omega arith)
-slot_table (Let name) e = absurd (omega arith)
-slot_table Bad e = absurd (omega arith)
+slot_table x e = by (stands x) e
+  where
+    by : {y : Node} → Stands y → slot_of y ≡ 2 → (name : ℕ) × (y ≡ Table name)
+    by (in_value s z f) g = absurd (omega arith)
+    by (in_table name) g = (name, refl)
+    by (in_root a b) g = absurd (omega arith)
+    by nowhere g = absurd (omega arith)
 
 pub slot_select : (x : Node) → slot_of x ≡ 3 → (a : ℕ) × (b : ℕ) × (x ≡ Select a b)
 unfolding slot_of
-slot_select (Const t v) e = absurd (omega arith)
-slot_select (Binop op) e = absurd (omega arith)
-slot_select Not e = absurd (omega arith)
-slot_select If e = absurd (omega arith)
-slot_select (Exists a q) e = absurd (omega arith)
-slot_select (Single a q) e = absurd (omega arith)
-slot_select (Table name) e = absurd (omega arith)
-slot_select (Select a b) e = (a, b, refl)
-slot_select (Col name q) e = absurd (omega arith)
-slot_select (Classof name q) e = absurd (omega arith)
-slot_select (Let name) e = absurd (omega arith)
-slot_select Bad e = absurd (omega arith)
+slot_select x e = by (stands x) e
+  where
+    by : {y : Node} → Stands y → slot_of y ≡ 3 → (a : ℕ) × (b : ℕ) × (y ≡ Select a b)
+    by (in_value s z f) g = absurd (omega arith)
+    by (in_table name) g = absurd (omega arith)
+    by (in_root a b) g = (a, b, refl)
+    by nowhere g = absurd (omega arith)
 
 module _ (v : List ℕ) (n d : ℕ) (p : ℕ → Parsed Exp) (at : ℕ) where
   -- what the parser reads after a record, by its shape

@@ -28,18 +28,8 @@ many p (suc count) at = and_then (p at) (λ x next. and_then (many p count next)
 
 -- the name of a TABLE
 unfoldable pub name_of : Node → ℕ
-name_of (Const t v) = 0
-name_of (Binop op) = 0
-name_of Not = 0
-name_of If = 0
-name_of (Exists a f) = 0
-name_of (Single a g) = 0
 name_of (Table name) = name
-name_of (Select a b) = 0
-name_of (Col name q) = 0
-name_of (Classof name q) = 0
-name_of (Let name) = 0
-name_of Bad = 0
+name_of node = 0
 
 -- the names of so many TABLE records, from a place on
 unfoldable pub names_at : List ℕ → ℕ → ℕ → List TabName
@@ -87,18 +77,8 @@ parse_value v n (suc depth) at = and_then (enter v n 1 at) (λ node next. parse_
 
 -- the root's node: SELECT, at depth 1 of 16
 unfoldable pub root_node : List ℕ → ℕ → Node → Parsed Block
-root_node v n (Const t x) = refused 4 0
-root_node v n (Binop op) = refused 4 0
-root_node v n Not = refused 4 0
-root_node v n If = refused 4 0
-root_node v n (Exists tables f) = refused 4 0
-root_node v n (Single tables g) = refused 4 0
-root_node v n (Table name) = refused 4 0
 root_node v n (Select tables values) = parse_block v n 15 (parse_value v n 15) tables values 1
-root_node v n (Col name q) = refused 4 0
-root_node v n (Classof name q) = refused 4 0
-root_node v n (Let name) = refused 4 0
-root_node v n Bad = refused 4 0
+root_node v n node = refused 4 0
 
 -- the whole tree of n records: nothing may follow the root's end
 unfoldable pub parse_root : List ℕ → ℕ → Parsed Block

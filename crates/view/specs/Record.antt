@@ -77,18 +77,10 @@ node_at v i = node_of (rec_at v i)
 
 -- where a node may stand: 1 a value's place, 2 a table's, 3 the root's; 0 nowhere
 unfoldable pub slot_of : Node → ℕ
-slot_of (Const t v) = 1
-slot_of (Binop op) = 1
-slot_of Not = 1
-slot_of If = 1
-slot_of (Exists a f) = 1
-slot_of (Single a g) = 1
 slot_of (Table name) = 2
 slot_of (Select a b) = 3
-slot_of (Col name q) = 1
-slot_of (Classof name q) = 1
-slot_of (Let name) = 1
 slot_of Bad = 0
+slot_of node = 1
 
 -- whether a record says a node: its kind is known and its fields keep the kind's rule
 unfoldable pub in_rule : Record → Bool
@@ -97,17 +89,15 @@ in_rule r = not (eqb (slot_of (node_of r)) 0)
 -- what follows the record of a value: so many values, or a block; TABLE, SELECT and a bad record are no values
 unfoldable pub shape_of : Node → Option Shape
 shape_of (Const t v) = Some (shape.Values 0)
-shape_of (Binop op) = Some (shape.Values 2)
+shape_of (Col name q) = Some (shape.Values 0)
+shape_of (Classof name q) = Some (shape.Values 0)
 shape_of Not = Some (shape.Values 1)
+shape_of (Binop op) = Some (shape.Values 2)
+shape_of (Let name) = Some (shape.Values 2)
 shape_of If = Some (shape.Values 3)
 shape_of (Exists a f) = Some (shape.Block a 0)
 shape_of (Single a g) = Some (shape.Block a 1)
-shape_of (Table name) = None
-shape_of (Select a b) = None
-shape_of (Col name q) = Some (shape.Values 0)
-shape_of (Classof name q) = Some (shape.Values 0)
-shape_of (Let name) = Some (shape.Values 2)
-shape_of Bad = None
+shape_of node = None
 
 -- a record of these fields
 abbrev pub rec : ℕ → ℕ → ℕ → ℕ → ℕ → Record
