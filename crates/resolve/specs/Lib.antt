@@ -9,3 +9,4 @@ pub mod Sizes
 pub mod Typed
 pub mod Steps
 pub mod Claims
+pub mod Opened

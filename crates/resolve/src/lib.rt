@@ -49,7 +49,7 @@ pub struct Known {
 }
 
 /// What is asked of a block: something of its kept rows (EXISTS, COUNT), or one of their values (VALUE, MAX, MIN).
-#[derive(Clone, Copy)]
+#[derive(Clone, Copy, PartialEq, Eq, Debug)]
 pub enum Asked {
     Rows(view::Fold),
     Values(view::Pick),
@@ -227,12 +227,13 @@ fn block(
     notes::note(notes, at, 0);
     notes::tables(source, next, count, notes);
     let test = within(source, next + count, down, held, deep, own, notes)?;
+    let opened = blocks::Opened { own, cat, nc };
     match asked {
-        Asked::Rows(fold) => blocks::with_exists(own, cat, nc, at as u16, fold, test),
+        Asked::Rows(fold) => opened.exists(at as u16, fold, test),
         Asked::Values(pick) => {
             let then = usize::from(test.next);
             let each = within(source, then, down, held, deep, own, notes)?;
-            blocks::with_single(own, cat, nc, at as u16, pick, test, each)
+            opened.single(at as u16, pick, test, each)
         }
     }
 }

@@ -1,5 +1,6 @@
 // What the walk notes of each record, for the writer of the data: one number each.
 // The definitions are in specs/Notes.
+// Stays: a note and an end are numbers, since the definitions `notes_of` and `ends_of`, over which the laws of tree and of label are stated, have these numbers.
 ghost use Rattle.std.specs.Prelude.{◌≡◌, ◌+◌, ◌<◌, ◌≤◌, set};
 ghost use Rattle.word.specs.Buffer.{put};
 ghost use Rattle.resolve.specs.Notes.{found_note, end_note, marked_at, numbers_at};

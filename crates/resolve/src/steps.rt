@@ -119,6 +119,7 @@ impl Known {
         }
     }
 
+    /// A value of a type, made of this one and another.
     #[tactic(auto, using(crate::proofs::Leaves::knowns))]
     fn with(self, ty: cell::Type, right: Self) -> Self
         ensures { result ≡ two_k ty self right }
@@ -138,6 +139,7 @@ impl Known {
         Ok(self.with(ty, right))
     }
 
+    /// The other truth value.
     #[tactic(auto, using(crate::proofs::Leaves::knowns))]
     fn negated(self) -> Self
         ensures { result ≡ not_k self }
@@ -174,6 +176,7 @@ impl Known {
         Known::new(ty, self.next, values, self.class())
     }
 
+    /// IF of a type, of whose condition this is known, its limbs brought to the type.
     #[tactic(auto, using(crate::proofs::Leaves::knowns))]
     fn either(self, ty: cell::Type, yes: Self, no: Self) -> Self
         ensures { result ≡ if_k ty self yes no }
@@ -235,7 +238,7 @@ pub fn class_of(at: u16, found: scope::Found) -> Result<Known, Refusal>
     ensures { said result ≡ class_t at found }
 {
     match found {
-        scope::Found::Column { row, .. } => { Ok(Known::leaf(cell::Type::Class, row, at + 1)) }
+        scope::Found::Column { row, .. } => Ok(Known::leaf(cell::Type::Class, row, at + 1)),
         scope::Found::Local { .. } | scope::Found::None => Err(Refusal {
             reason: Reason::NoColumn,
             place: at,

@@ -40,9 +40,6 @@ block-returns-in_err-test-clause-value t c = passed _ _ c.from_residual-in_err-t
 pub block-returns-in_err-test-clause-noted_by : goal.block-returns-in_err-test-clause-noted_by
 block-returns-in_err-test-clause-noted_by t c = unnoted _ _ _ _ _ _ _ _ _ _ (where_refused _ _ _ _ _ _ _ _ c.requires.0 _ _ c.requires.1 _ c.in_ok-own.ensures _ refl _ c.in_err-test.ensures.value _ _ refl)
 
-pub block-with_exists-requires : goal.block-with_exists-requires
-block-with_exists-requires t c = block_opening _ _ _ _ _ _ _ _ c.requires.0 _ _ c.requires.1 _ c.in_ok-own.ensures
-
 pub block-within-requires-in-Values : goal.block-within-requires-in-Values
 block-within-requires-in-Values t c = ((let z = c.decreases in let l = c.requires.0.left in omega arith), rw (c.from-then.ensures, c.within.ensures.held_unchanged) (value_ready _ _ _ _ _ _ _ _ c.requires.0 _ _ c.requires.1 _ c.in_ok-own.ensures _ refl _ c.in_ok-test.ensures.value _ refl _ c.in-Values.is))
 
@@ -52,20 +49,23 @@ block-returns-in_err-each-in-Values-clause-value t c = passed _ _ c.from_residua
 pub block-returns-in_err-each-in-Values-clause-noted_by : goal.block-returns-in_err-each-in-Values-clause-noted_by
 block-returns-in_err-each-in-Values-clause-noted_by t c = unnoted _ _ _ _ _ _ _ _ _ _ (value_refused _ _ _ _ _ _ _ _ c.requires.0 _ _ c.requires.1 _ c.in_ok-own.ensures _ refl _ c.in_ok-test.ensures.value _ refl _ c.in-Values.is _ (rw (c.from-then.ensures, c.within.ensures.held_unchanged) at c.in_err-each-in-Values.ensures.value) _ _ refl)
 
-pub block-with_single-requires : goal.block-with_single-requires
-block-with_single-requires t c = block_opening _ _ _ _ _ _ _ _ c.requires.0 _ _ c.requires.1 _ c.in_ok-own.ensures
-
 pub block-returns-in-Rows-clause-value : goal.block-returns-in-Rows-clause-value
-block-returns-in-Rows-clause-value t c = exists_done _ _ _ _ _ _ _ _ c.requires.0 _ _ c.requires.1 _ c.in_ok-own.ensures _ refl _ c.in_ok-test.ensures.value _ refl _ _ c.in-Rows.is c.with_exists.ensures
+block-returns-in-Rows-clause-value t c = exists_done _ _ _ _ _ _ _ _ c.requires.0 _ _ c.requires.1 _ c.in_ok-own.ensures _ refl _ c.in_ok-test.ensures.value _ refl _ _ c.in-Rows.is c.exists.ensures
 
 pub block-returns-in-Rows-clause-noted_by : goal.block-returns-in-Rows-clause-noted_by
 block-returns-in-Rows-clause-noted_by t c = exists_noted _ _ _ _ _ _ _ _ c.requires.0 _ _ c.requires.1 _ c.in_ok-own.ensures _ refl _ _ _ _ c.note.ensures c.tables.ensures c.within.ensures.noted_by _ c.in-Rows.is
 
 pub block-returns-in_ok-each-in-Values-clause-value : goal.block-returns-in_ok-each-in-Values-clause-value
-block-returns-in_ok-each-in-Values-clause-value t c = single_done _ _ _ _ _ _ _ _ c.requires.0 _ _ c.requires.1 _ c.in_ok-own.ensures _ refl _ c.in_ok-test.ensures.value _ refl _ c.in-Values.is _ (rw (c.from-then.ensures, c.within.ensures.held_unchanged) at c.in_ok-each-in-Values.ensures.value) _ _ refl c.with_single.ensures
+block-returns-in_ok-each-in-Values-clause-value t c = single_done _ _ _ _ _ _ _ _ c.requires.0 _ _ c.requires.1 _ c.in_ok-own.ensures _ refl _ c.in_ok-test.ensures.value _ refl _ c.in-Values.is _ (rw (c.from-then.ensures, c.within.ensures.held_unchanged) at c.in_ok-each-in-Values.ensures.value) _ _ refl c.single.ensures
 
 pub block-returns-in_ok-each-in-Values-clause-noted_by : goal.block-returns-in_ok-each-in-Values-clause-noted_by
 block-returns-in_ok-each-in-Values-clause-noted_by t c = single_noted _ _ _ _ _ _ _ _ c.requires.0 _ _ c.requires.1 _ c.in_ok-own.ensures _ refl _ _ _ _ c.note.ensures c.tables.ensures c.within.ensures.noted_by _ c.in_ok-test.ensures.value _ refl _ (rw (c.from-then.ensures, c.within.ensures.held_unchanged) at c.within-in-Values.ensures.noted_by) _ c.in-Values.is
+
+pub block-invariant_of-opened : goal.block-invariant_of-opened
+block-invariant_of-opened t c = record { opening = block_opening _ _ _ _ _ _ _ _ c.requires.0 _ _ c.requires.1 _ c.in_ok-own.ensures }
+
+pub block-invariant_of-opened-in-Values : goal.block-invariant_of-opened-in-Values
+block-invariant_of-opened-in-Values t c = record { opening = block_opening _ _ _ _ _ _ _ _ c.requires.0 _ _ c.requires.1 _ c.in_ok-own.ensures }
 
 pub value-sound_at-requires-clause-i_value : goal.value-sound_at-requires-clause-i_value
 value-sound_at-requires-clause-i_value t c = (here_ok _ _ _ _ c.requires.is_read).slot

@@ -1,7 +1,7 @@
--- `resolve::blocks::single` meets its contract.
+-- `resolve::blocks::Opened::kept` meets its contract.
 -- Assumes nothing.
 use Rattle.resolve.proofs.Tables.{blocked}
-use Rattle.resolve.proofs.blocks.single.Goals as goal
+use Rattle.resolve.proofs.blocks.Opened.kept.Goals as goal
 
 pub returns : goal.returns
 returns c = search blocked

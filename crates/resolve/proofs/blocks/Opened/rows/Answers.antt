@@ -1,7 +1,7 @@
--- `resolve::blocks::rows` meets its contract: what is joined so far, and the rows that are left, come to all.
+-- `resolve::blocks::Opened::rows` meets its contract: what is joined so far, and the rows that are left, come to all.
 -- Assumes nothing.
 use Rattle.resolve.proofs.Tables.{rowed, rows_again}
-use Rattle.resolve.proofs.blocks.rows.Goals as goal
+use Rattle.resolve.proofs.blocks.Opened.rows.Goals as goal
 
 pub loop-j-init : goal.loop-j-init
 loop-j-init c = search rowed

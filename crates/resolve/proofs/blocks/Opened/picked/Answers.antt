@@ -1,7 +1,7 @@
--- `resolve::blocks::exists` meets its contract.
+-- `resolve::blocks::Opened::picked` meets its contract.
 -- Assumes nothing.
 use Rattle.resolve.proofs.Tables.{blocked}
-use Rattle.resolve.proofs.blocks.exists.Goals as goal
+use Rattle.resolve.proofs.blocks.Opened.picked.Goals as goal
 
 pub returns : goal.returns
 returns c = search blocked
