@@ -30,6 +30,7 @@ pub enum Pick {
 }
 
 /// What a record says: its kind with the fields that the kind has. Bad: an unknown kind or op, or a field out of rule.
+// Stays: `Bad` (reason a), a case of the definition `node_of` of specs/Record, which the definitions of the crates above take apart.
 #[derive(Clone, Copy, PartialEq, Eq, Debug)]
 pub enum Node {
     Const(cell::Type, cell::Value),
@@ -284,6 +285,7 @@ fn value(reader: &mut Reader<'_>, depth: u16) -> Result<(), Refusal>
 }
 
 /// So many values.
+// Stays: a loop like that of `tables` (reason d). One function over what is read would need a closure in the cycle of calls, and its clause would be longer than the loop.
 #[cycle(block_value_values)]
 #[tactic(auto, using(crate::proofs::Turns::repeats))]
 fn values(reader: &mut Reader<'_>, count: u16, depth: u16) -> Result<(), Refusal>
