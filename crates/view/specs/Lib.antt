@@ -3,3 +3,4 @@
 pub mod Record
 pub mod Ast
 pub mod Parse
+pub mod Walk

@@ -1,9 +1,8 @@
 -- The parser of a view (1 to 5): from its bytes to its syntax tree, or to the refusal's number and place.
 -- Records in order, 3 before 4 before 5 at one record; after the root's end only 4; a tree that ends early is 4 at n. Assumes nothing.
-use Rattle.std.specs.Prelude.{ℕ, zero, suc, ◌+◌, ◌*◌, cond, ◌&&◌, List, [], ◌∷◌, length, eqb, ltb, Result, Ok, Err}
+use Rattle.std.specs.Prelude.{ℕ, zero, suc, ◌+◌, ◌*◌, cond, ◌&&◌, List, [], ◌∷◌, length, eqb, ltb}
 use Rattle.word.specs.Bytes.{within}
-use Rattle.word.specs.Refusal.{Checked, fine, refusal, number_of}
-use Rattle.word.specs.declared.refusal.Refusal.{Refusal}
+use Rattle.word.specs.Refusal.{Checked, fine, refusal}
 use Rattle.word.specs.Header.{drq, headed, count_at}
 use Rattle.view.specs.Record.{node_at, slot_of}
 use Rattle.view.specs.Ast.{TabName, Exp, Block, first_of, Parsed, ok, refused, and_then}
@@ -103,11 +102,6 @@ peek_of v n at = cond (ltb at n) (cond (eqb (slot_of (node_at v at)) 0) (refusal
 unfoldable pub place_of : {A : Type 0} → Parsed A → Checked ℕ
 place_of (ok a next) = fine next
 place_of (refused number place) = refusal number place
-
--- what a reader that stands at a place has read
-abbrev pub read_to : {A : Type 0} → ℕ → Result A Refusal → Checked ℕ
-read_to place (Ok a) = fine place
-read_to place (Err r) = refusal (number_of r.reason) r.place
 
 -- THE CHECK
 unfoldable pub check_of : List ℕ → Checked ℕ

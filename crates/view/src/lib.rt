@@ -9,7 +9,8 @@ ghost use Rattle.word.specs.Refusal.{said};
 ghost use Rattle.cell.specs.Types.{digits_rule};
 ghost use Rattle.cell.specs.Values.{digits};
 ghost use Rattle.view.specs.Record.{bare, op_only, a_only, counts, value_in, in_rule, node_of, node_at, slot_of, shape_of};
-ghost use Rattle.view.specs.Parse.{many, parse_table, parse_block, parse_value, parse_root, place_of, read_to, check_of};
+ghost use Rattle.view.specs.Parse.{parse_root, place_of, check_of};
+ghost use Rattle.view.specs.Walk.{table_at, tables_at, value_at, values_at, block_at, read_to, Walked};
 
 use reader::Reader;
 use word::{Reason, Record, Refusal};
@@ -224,9 +225,7 @@ pub fn sound_at(view: &[u8], i: usize) -> Node
 /// A TABLE record, with so many levels left.
 #[tactic(auto, using(crate::proofs::Turns::tabling))]
 fn table(reader: &mut Reader<'_>, depth: u16) -> Result<(), Refusal>
-    ensures value { read_to reader.new.place result ≡ place_of (parse_table reader.old.view.now reader.old.count depth reader.old.place) }
-    ensures view { reader.new.view ≡ reader.old.view }
-    ensures count { reader.new.count ≡ reader.old.count }
+    ensures { Walked (table_at reader.old depth) reader.old reader.new result }
 {
     let Node::Table(_) = reader.peek()? else {
         return Err(Refusal {
@@ -247,9 +246,7 @@ fn table(reader: &mut Reader<'_>, depth: u16) -> Result<(), Refusal>
 /// So many TABLE records.
 #[tactic(auto, using(crate::proofs::Turns::repeats))]
 fn tables(reader: &mut Reader<'_>, count: u16, depth: u16) -> Result<(), Refusal>
-    ensures value { read_to reader.new.place result ≡ place_of (many (parse_table reader.old.view.now reader.old.count depth) count reader.old.place) }
-    ensures view { reader.new.view ≡ reader.old.view }
-    ensures count { reader.new.count ≡ reader.old.count }
+    ensures { Walked (tables_at reader.old count depth) reader.old reader.new result }
 {
     for _ in 0..count {
         table(reader, depth)?;
@@ -261,9 +258,7 @@ fn tables(reader: &mut Reader<'_>, count: u16, depth: u16) -> Result<(), Refusal
 #[cycle(block_value_values)]
 #[tactic(auto, using(crate::proofs::Turns::turns))]
 fn value(reader: &mut Reader<'_>, depth: u16) -> Result<(), Refusal>
-    ensures value { read_to reader.new.place result ≡ place_of (parse_value reader.old.view.now reader.old.count depth reader.old.place) }
-    ensures view { reader.new.view ≡ reader.old.view }
-    ensures count { reader.new.count ≡ reader.old.count }
+    ensures { Walked (value_at reader.old depth) reader.old reader.new result }
 {
     let Some(shape) = reader.peek()?.shape() else {
         return Err(Refusal {
@@ -289,9 +284,7 @@ fn value(reader: &mut Reader<'_>, depth: u16) -> Result<(), Refusal>
 #[cycle(block_value_values)]
 #[tactic(auto, using(crate::proofs::Turns::repeats))]
 fn values(reader: &mut Reader<'_>, count: u16, depth: u16) -> Result<(), Refusal>
-    ensures value { read_to reader.new.place result ≡ place_of (many (parse_value reader.old.view.now reader.old.count depth) count reader.old.place) }
-    ensures view { reader.new.view ≡ reader.old.view }
-    ensures count { reader.new.count ≡ reader.old.count }
+    ensures { Walked (values_at reader.old count depth) reader.old reader.new result }
 {
     for _ in 0..count {
         value(reader, depth)?;
@@ -308,9 +301,7 @@ fn block(
     value_count: u16,
     depth: u16,
 ) -> Result<(), Refusal>
-    ensures value { read_to reader.new.place result ≡ place_of (parse_block reader.old.view.now reader.old.count depth (parse_value reader.old.view.now reader.old.count depth) table_count value_count reader.old.place) }
-    ensures view { reader.new.view ≡ reader.old.view }
-    ensures count { reader.new.count ≡ reader.old.count }
+    ensures { Walked (block_at reader.old table_count value_count depth) reader.old reader.new result }
 {
     tables(reader, table_count, depth)?;
     value(reader, depth)?;
