@@ -25,30 +25,31 @@ pub fn local_scope(name: u16, ty: cell::Type, info: class::Info) -> Scope
 
 /// How many tables an entry has, at most four; a local has none.
 #[tactic(auto, unfolding(crate::specs::Entry::count_in))]
-pub fn tables_in(s: Scope) -> usize
-    ensures { (result ≡ min (count_in s) 4) × (result ≤ 4) }
+pub fn tables_in(scope: Scope) -> usize
+    ensures { (result ≡ min (count_in scope) 4) × (result ≤ 4) }
 {
-    match s {
+    match scope {
         Scope::Block(block) => usize::from(block.count.min(4)),
         Scope::Local(_) => 0,
     }
 }
 
-// The record of table j of an entry, if there is one.
+// The record of a table of an entry, by its number, if the entry has so many.
 #[tactic(auto, unfolding(crate::specs::Entry::count_in, crate::specs::Entry::table_in))]
-fn table_in(s: Scope, j: usize) -> Option<usize>
-    ensures some { IfSome result (λ t. (j < min (count_in s) 4) × (t ≡ table_in s j)) }
-    ensures none { result ≡ None → min (count_in s) 4 ≤ j }
+fn table_in(scope: Scope, number: usize) -> Option<usize>
+    ensures some { IfSome result (λ table. (number < min (count_in scope) 4) × (table ≡ table_in scope number)) }
+    ensures none { result ≡ None → min (count_in scope) 4 ≤ number }
 {
-    match s {
-        Scope::Block(block) if j < usize::from(block.count.min(4)) => {
-            Some(usize::from(block.tables[j]))
+    match scope {
+        Scope::Block(block) if number < usize::from(block.count.min(4)) => {
+            Some(usize::from(block.tables[number]))
         }
         _ => None,
     }
 }
 
 // The name of a TABLE; 0 for any other node.
+// Stays: the definition of a TABLE's name, view/specs/Parse `name_of`, has 0 for a node that is none.
 #[tactic(auto, unfolding(view::specs::Parse::name_of))]
 fn name_of(node: view::Node) -> u16
     ensures { result ≡ name_of node }
@@ -59,24 +60,25 @@ fn name_of(node: view::Node) -> u16
     name
 }
 
-/// The number among the tables of the one that TABLE record p names, if there is one.
+/// The number among a catalogue's tables of the one that TABLE record `at` names, if there is one.
 pub fn table_number(
     cat: &[u8],
     n: usize,
     starts: &[u16; 32],
     tables: usize,
     view: &[u8],
-    p: usize,
+    at: usize,
 ) -> Option<usize>
     requires n_in_bounds { 8 + 8 * n ≤ length cat.now }
     requires starts_are { StartsAre cat.now n tables starts.now }
-    requires p_in_bounds { 8 + 8 * p + 8 ≤ length view.now }
-    ensures found { table_named (name_of (node_at view.now p)) (tables_from cat.now n n 0) ≡ ref_of cat.now n starts.now result }
+    requires p_in_bounds { 8 + 8 * at + 8 ≤ length view.now }
+    ensures found { table_named (name_of (node_at view.now at)) (tables_from cat.now n n 0) ≡ ref_of cat.now n starts.now result }
     ensures few { IfSome result (λ j. j < tables) }
 {
-    catalogue::find_table(cat, n, starts, tables, name_of(view::node_at(view, p)))
+    catalogue::find_table(cat, n, starts, tables, name_of(view::node_at(view, at)))
 }
 
+// Stays: seven parameters are no plainer in a struct here, since crate catalogue's look-ups take `cat, n, starts, tables` one by one and each caller's struct of them holds more.
 /// The entry of a block whose TABLE records stand from record `at` on; or `NoTable` at the first of them whose table isn't in the catalogue.
 pub fn open_block(
     cat: &[u8],
@@ -95,13 +97,13 @@ pub fn open_block(
 {
     let mut places = [0u16; 4];
     for j in 0..count {
-        let Some(k) = table_number(cat, n, starts, tables, view, at + j) else {
+        let Some(number) = table_number(cat, n, starts, tables, view, at + j) else {
             return Err(Refusal {
                 reason: Reason::NoTable,
                 place: (at + j).min(65535) as u16,
             });
         };
-        places[j] = starts[k];
+        places[j] = starts[number];
     }
     Ok(Scope::Block(Block {
         tables: places,
@@ -109,39 +111,39 @@ pub fn open_block(
     }))
 }
 
-/// What is known of the class of the rows of table j of a block; past the last, Fixed(0).
-pub fn row_info(s: Scope, cat: &[u8], n: usize, j: usize) -> class::Info
+/// What is known of the class of the rows of a block's table, by its number; past the last, `Fixed(0)`.
+pub fn row_info(scope: Scope, cat: &[u8], n: usize, number: usize) -> class::Info
     requires n_in_bounds { 8 + 8 * n ≤ length cat.now }
-    requires among { Among n s }
-    ensures { result ≡ get_or (rows_of (tables_in (open_of cat.now n s))) j (Fixed 0) }
+    requires among { Among n scope }
+    ensures { result ≡ get_or (rows_of (tables_in (open_of cat.now n scope))) number (Fixed 0) }
 {
-    match table_in(s, j) {
-        Some(t) => catalogue::info_at(cat, t),
+    match table_in(scope, number) {
+        Some(table) => catalogue::info_at(cat, table),
         None => class::Info::Fixed(0),
     }
 }
 
-/// The class of table j of a block; past the last, 0.
-pub fn table_class_at(s: Scope, cat: &[u8], n: usize, j: usize) -> u16
+/// The class of a block's table, by its number; past the last, 0.
+pub fn table_class_at(scope: Scope, cat: &[u8], n: usize, number: usize) -> u16
     requires n_in_bounds { 8 + 8 * n ≤ length cat.now }
-    requires among { Among n s }
-    ensures { result ≡ get_or (classes_of (tables_in (open_of cat.now n s))) j 0 }
+    requires among { Among n scope }
+    ensures { result ≡ get_or (classes_of (tables_in (open_of cat.now n scope))) number 0 }
 {
-    match table_in(s, j) {
-        Some(t) => word::record_at(cat, t).c,
+    match table_in(scope, number) {
+        Some(table) => word::record_at(cat, table).c,
         None => 0,
     }
 }
 
 /// The lub of the classes of a block's tables.
-pub fn block_class(s: Scope, cat: &[u8], n: usize) -> u16
+pub fn block_class(scope: Scope, cat: &[u8], n: usize) -> u16
     requires n_in_bounds { 8 + 8 * n ≤ length cat.now }
-    requires among { Among n s }
-    ensures { result ≡ lub_all (classes_of (tables_in (open_of cat.now n s))) }
+    requires among { Among n scope }
+    ensures { result ≡ lub_all (classes_of (tables_in (open_of cat.now n scope))) }
 {
-    let mut k = 0;
-    for j in (0..tables_in(s)).rev() {
-        k = class::lub(table_class_at(s, cat, n, j), k);
+    let mut class = 0;
+    for number in (0..tables_in(scope)).rev() {
+        class = class::lub(table_class_at(scope, cat, n, number), class);
     }
-    k
+    class
 }

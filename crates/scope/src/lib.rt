@@ -65,7 +65,7 @@ pub fn push(scopes: &mut [Scope], depth: usize, scope: Scope)
     scopes[depth] = scope;
 }
 
-/// The table with one more scope open.
+/// The table with one more scope open; the one that was given is as it was.
 pub fn pushed(t: [Scope; 16], depth: usize, scope: Scope) -> [Scope; 16]
     requires { depth < 16 }
     ensures { result ≡ set t depth scope }

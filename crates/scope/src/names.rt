@@ -33,7 +33,7 @@ pub struct Lookup<'a> {
 }
 
 impl<'a> Lookup<'a> {
-    // The first record, from i on, of a column of this table that has the name.
+    // The first record, from i on, of a column of the same table that has the name.
     fn first_named(&self, i: usize) -> Option<usize>
         requires { 1 ≤ i }
         ensures { FirstIs self.now.cat.now self.now.n i self.now.name result }

@@ -3,11 +3,11 @@
 use Rattle.scope.proofs.Blocks.{blocks}
 use Rattle.scope.proofs.entry.block_class.Goals as goal
 
-pub loop-j-init : goal.loop-j-init
-loop-j-init c = search blocks
+pub loop-number-init : goal.loop-number-init
+loop-number-init c = search blocks
 
-pub loop-j-preserved : goal.loop-j-preserved
-loop-j-preserved c = search blocks
+pub loop-number-preserved : goal.loop-number-preserved
+loop-number-preserved c = search blocks
 
 pub returns : goal.returns
 returns c = search blocks

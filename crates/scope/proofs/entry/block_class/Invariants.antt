@@ -6,5 +6,5 @@ use mathlib.Core.Path.{◌≡◌}
 use Rattle.scope.specs.Entry.{count_in}
 use Rattle.scope.proofs.entry.block_class.Given as goal
 
-abbrev pub invariant-loop-j : goal.invariant-loop-j
-invariant-loop-j l = (l.j ≤ min (count_in l.s) 4) × (l.k ≡ lub_left l.cat l.n l.s l.j)
+abbrev pub invariant-loop-number : goal.invariant-loop-number
+invariant-loop-number l = (l.number ≤ min (count_in l.scope) 4) × (l.class ≡ lub_left l.cat l.n l.scope l.number)
