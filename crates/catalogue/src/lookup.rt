@@ -1,5 +1,6 @@
 // The look-ups in a catalogue: where its tables stand, a table by its name, the type and the class of a record.
 // A caller holds the tables' records in an array, which `starts` fills once.
+// Stays: an array with its count beside it, and four parameters together; the callers above hold them in one struct with more (resolve's Source), and a second struct would be made of it at each call.
 ghost use Rattle.std.specs.Prelude.{◌≡◌, ◌+◌, ◌*◌, ◌≤◌, ◌<◌, length, get_or, IfSome};
 ghost use Rattle.word.specs.Record.{op_at, b_at};
 ghost use Rattle.class.specs.Info.{info_by};

@@ -2,7 +2,7 @@
 // The definitions are in specs/: Layout has the check, Rows what a store says.
 #![tactic(auto)]
 
-ghost use Rattle.std.specs.Prelude.{◌≡◌, ◌+◌, ◌-◌, ◌*◌, ◌/◌, ◌%◌, ◌≤◌, ◌<◌, length, get_or};
+ghost use Rattle.std.specs.Prelude.{◌≡◌, ◌+◌, ◌-◌, ◌*◌, ◌/◌, ◌%◌, ◌^◌, ◌≤◌, ◌<◌, length, get_or};
 ghost use Rattle.word.specs.Bytes.{u16_at};
 ghost use Rattle.word.specs.Record.{rec_at};
 ghost use Rattle.word.specs.Refusal.{said};
@@ -15,6 +15,8 @@ pub use places::{
 };
 use word::{Reason, Record, Refusal};
 
+// Stays: readers of this crate's own, `byte`, `half` and `record`; `check_over`, `row_size` and `table_spans` promise an answer for a catalogue of any bytes, and a byte past the end counts as 0.
+
 // A byte; past the end it counts as 0.
 fn byte(bytes: &[u8], at: usize) -> u8
     ensures { result ≡ get_or bytes.now at 0 }
@@ -24,7 +26,7 @@ fn byte(bytes: &[u8], at: usize) -> u8
 
 // The 16 bits at a place; a byte past the end counts as 0.
 fn half(bytes: &[u8], at: usize) -> u16
-    requires { at < 4398046511104 }
+    requires { at + 1 < 2 ^ 64 }
     ensures { result ≡ u16_at bytes.now at }
 {
     u16::from_le_bytes([byte(bytes, at), byte(bytes, at + 1)])
@@ -148,7 +150,7 @@ impl<'a> Layout<'a> {
             )
     }
 
-    // The place behind record i's table.
+    // The place behind record i's table: a table takes at most 2 + 65,536 · 16,642 = 1,090,650,114 bytes.
     #[tactic(auto, using(crate::proofs::Laws::all_few), unfolding(crate::specs::Layout::place_after, word::specs::Record::rec_at))]
     fn place_after(&self, i: usize, at: usize) -> usize
         requires { (i < self.now.n) × (at ≤ 8 + 1090650114 * i) }
