@@ -1,10 +1,11 @@
 -- The spans of the tables: the array as the code fills it, and what it says of an accepted store.
 -- Assumes nothing.
-use Prim.Native.Nat.{ℕ, zero, suc, ◌+◌, ◌<◌, ◌≤◌}
+use Prim.Native.Nat.{ℕ, zero, suc, ◌+◌, ◌-◌, ◌*◌, ◌<◌, ◌≤◌}
 use mathlib.Core.Path.{◌≡◌, refl, sym, ap, ◌∙◌}
 use mathlib.Core.Bool.{Bool, true, false, cond}
 use mathlib.Core.List.{List, [], ◌∷◌, ◌++◌, map}
 use native.Mathlib.Omega.{arith}
+use native.Mathlib.Nat.{suc-mul, mul-le-mul_right}
 use native.Mathlib.Numerals.{add-one}
 use borrow.Author.Tests.{ne_eqb}
 use lib.Dec.{eqb}
@@ -18,12 +19,12 @@ use Rattle.cell.specs.Res.{done, nth}
 use Rattle.catalogue.specs.Fault as fault
 use Rattle.catalogue.specs.Starts.{starts_from, starts_of}
 use Rattle.catalogue.proofs.Meaning as catalogue
-use Rattle.store.specs.Layout.{row_size, place_after, place_of, end_from, check_of}
-use Rattle.store.specs.Rows.{rows_from, table_rows, store_of}
+use Rattle.store.specs.Layout.{row_size, place_after, place_of, end_from, check_of, class_rule, cell_rule, cell_place, columns_from, row_fault}
+use Rattle.store.specs.Rows.{rows_from, table_rows, tables_rows, store_of}
 use Rattle.store.specs.Spans.{span_of, blank, fill, spans_of, IsSpan}
 use Rattle.store.specs.declared.places.Span.{Span}
 use Rattle.store.proofs.Meaning.{place_below, table_inside, accepted}
-use Rattle.store.proofs.Spanning.{nth_stores, place_begin}
+use Rattle.store.proofs.Faultless.{table_clean, row_clean, class_clean, cell_clean}
 
 -- ---- a list in an array
 
@@ -178,6 +179,30 @@ module _ (c : List ℕ) (n : ℕ) (s : List ℕ) where
       rw f
       (record { below = l; table = k; first = refl; rows = refl; size = refl; inside = rw e at (table_inside c n s i l k) })
 
+-- ---- the rows of the tables
+
+module _ (c : List ℕ) (n : ℕ) (s : List ℕ) where
+  place_again : (i at q : ℕ) → at ≡ place_of c n s i → q ≡ place_after c n s i at → q ≡ place_of c n s (i + 1)
+  unfolding place_of
+  place_again i at q p e = rw (add-one i) (e ∙ ap (place_after c n s i) p)
+
+  place_begin : 8 ≡ place_of c n s 0
+  unfolding place_of
+  place_begin = refl
+
+  pub nth_stores : (k i at j : ℕ) → at ≡ place_of c n s i → j < length (starts_from c k i) → nth (tables_rows c n s k i at) j ≡ done (table_rows c n s (get_or (starts_from c k i) j 0) (place_of c n s (get_or (starts_from c k i) j 0)))
+  unfolding starts_from tables_rows nth
+  nth_stores zero i at j p h = absurd (omega arith)
+  nth_stores (suc k) i at j p h = go (λ m. nth_stores k (i + 1) (place_after c n s i at) m (place_again i at _ p refl)) (eqb (kind_at c i) 1) j h
+    where
+      go : ((j : ℕ) → j < length (starts_from c k (i + 1)) → nth (tables_rows c n s k (i + 1) (place_after c n s i at)) j ≡ done (table_rows c n s (get_or (starts_from c k (i + 1)) j 0) (place_of c n s (get_or (starts_from c k (i + 1)) j 0))))
+          → (b : Bool) (j : ℕ) → j < length (cond b (i ∷ starts_from c k (i + 1)) (starts_from c k (i + 1)))
+          → nth (cond b (table_rows c n s i at ∷ tables_rows c n s k (i + 1) (place_after c n s i at)) (tables_rows c n s k (i + 1) (place_after c n s i at))) j
+          ≡ done (table_rows c n s (get_or (cond b (i ∷ starts_from c k (i + 1)) (starts_from c k (i + 1))) j 0) (place_of c n s (get_or (cond b (i ∷ starts_from c k (i + 1)) (starts_from c k (i + 1))) j 0)))
+      go ih true zero h = unfold nth in ap (λ (x : ℕ). done (table_rows c n s i x)) p
+      go ih true (suc j) h = unfold nth in ih j (omega arith)
+      go ih false j h = ih j h
+
 module _ (c s : List ℕ) (t : ℕ) (e : fault.check_of c ≡ fine t) (f : check_of c (count_at c) t s ≡ fine (tt {0})) (j : ℕ) (h : j < t) where
   pub span_is : IsSpan c (count_at c) s (get_or (starts_of c) j 0) (get_or (spans_of c (count_at c) s) j blank)
   unfolding starts_of
@@ -193,3 +218,43 @@ module _ (c s : List ℕ) (t : ℕ) (e : fault.check_of c ≡ fine t) (f : check
   rows_are =
       let a = span_is in
       rw (a.first, a.rows, a.size) (nth_stores c (count_at c) s (count_at c) 0 8 j (place_begin c (count_at c) s) (omega (arith, (catalogue.accepted c t e).starts_length)))
+
+-- ---- a row and a cell stand inside the store
+
+rows_within : (first rows size r len : ℕ) → first + rows * size ≤ len → r < rows → first + r * size + size ≤ len
+rows_within first rows size r len l h = omega (arith, suc-mul r size, mul-le-mul_right size h)
+
+module _ (c : List ℕ) (n : ℕ) (s : List ℕ) (i : ℕ) (span : Span) (a : IsSpan c n s i span) (r : ℕ) (h : r < span.rows) where
+  pub row_inside : span.first + r * span.size + span.size ≤ length s
+  row_inside = rows_within span.first span.rows span.size r (length s) a.inside h
+
+  pub cell_inside : (m : ℕ) → m < columns_from c (n - (i + 1)) (i + 1) → cell_place (span.first + r * span.size) m + 8 ≤ length s
+  unfolding row_size cell_place
+  cell_inside m l =
+      let z : span.size ≡ 0 + 2 + 8 * columns_from c (n - (i + 1)) (i + 1) = a.size in
+      omega (arith, row_inside, z, l)
+
+-- ---- the classes of a row and its cells keep their rules
+
+module _ (c s : List ℕ) (t : ℕ) (e : fault.check_of c ≡ fine t) (f : check_of c (count_at c) t s ≡ fine tt) (j : ℕ) (h : j < t) (r : ℕ) (l : r < (get_or (spans_of c (count_at c) s) j blank).rows) where
+  row_of : row_fault c (count_at c) s (get_or (starts_of c) j 0) ((get_or (spans_of c (count_at c) s) j blank).first + r * (get_or (spans_of c (count_at c) s) j blank).size) ≡ 0
+  row_of =
+      let a = span_is c s t e f j h in
+      rw (a.first, a.size)
+      (row_clean c (count_at c) s (get_or (starts_of c) j 0) (u16_at s (place_of c (count_at c) s (get_or (starts_of c) j 0))) (place_of c (count_at c) s (get_or (starts_of c) j 0) + 2) (row_size c (count_at c) (get_or (starts_of c) j 0))
+      (table_clean c (count_at c) s (accepted c (count_at c) t s f).no_fault (get_or (starts_of c) j 0) a.below a.table)
+      r (rw a.rows at l))
+
+  row_some : 0 < (get_or (spans_of c (count_at c) s) j blank).first + r * (get_or (spans_of c (count_at c) s) j blank).size
+  row_some = let a = span_is c s t e f j h in omega (arith, a.first)
+
+  pub row_keeps : class_rule c (get_or (starts_of c) j 0) s ((get_or (spans_of c (count_at c) s) j blank).first + r * (get_or (spans_of c (count_at c) s) j blank).size) ≡ true
+  row_keeps = (class_clean c (count_at c) s (get_or (starts_of c) j 0) _ row_some row_of).0
+
+  pub cell_keeps : (m : ℕ) → m < columns_from c (count_at c - (get_or (starts_of c) j 0 + 1)) (get_or (starts_of c) j 0 + 1)
+      → cell_rule c (get_or (starts_of c) j 0 + 1 + m) s (cell_place ((get_or (spans_of c (count_at c) s) j blank).first + r * (get_or (spans_of c (count_at c) s) j blank).size) m) ≡ true
+  cell_keeps m k =
+      let z : 0 + m ≡ m = omega arith in
+      rw z at
+      (cell_clean c (count_at c) s (count_at c - (get_or (starts_of c) j 0 + 1)) (get_or (starts_of c) j 0 + 1) _ 0
+      (class_clean c (count_at c) s (get_or (starts_of c) j 0) _ row_some row_of).1 m k)

@@ -6,6 +6,5 @@ pub mod Faultless
 pub mod Lists
 pub mod Stores
 pub mod Cells
-pub mod Spanning
 pub mod Arrays
 pub mod Samples

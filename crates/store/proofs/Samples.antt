@@ -15,7 +15,7 @@ use Rattle.catalogue.specs.Fault as fault
 use Rattle.catalogue.specs.Starts.{starts_from}
 use Rattle.store.specs.Layout.{class_rule, magnitude, value_rule, cell_rule, cell_place, columns_from, row_size, place_after, place_of, end_from, first, cells_fault, row_fault, rows_fault, table_fault, fault_from, verdict_by, check_of, files_of}
 use Rattle.store.specs.Rows.{value_of, cell_at, cells_from, row_at, rows_from, table_rows, tables_rows, store_of}
-use Rattle.store.specs.Spans.{spans_over}
+use Rattle.store.specs.Spans.{span_of}
 use Rattle.word.specs.Refusal.{fine, refusal}
 
 -- a table: row class stored, within 4096; a column of type fixed (4,2), class 0; a boolean column, class stored, within 8193
@@ -75,6 +75,6 @@ unfolding store_of tables_rows table_rows rows_from row_at cells_from cell_at va
 worked_rows = refl
 
 -- and where they stand
-pub worked_spans : spans_over catalogue 3 two_rows (starts_from catalogue 3 0) ≡ 10 ∷ 2 ∷ 18 ∷ []
-unfolding spans_over starts_from place_of place_after row_size columns_from cell_place
+pub worked_spans : map (span_of catalogue 3 two_rows) (starts_from catalogue 3 0) ≡ record { first = 10; rows = 2; size = 18 } ∷ []
+unfolding span_of starts_from place_of place_after row_size columns_from cell_place
 worked_spans = refl

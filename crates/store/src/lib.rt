@@ -10,9 +10,7 @@ ghost use Rattle.store.specs.Layout.{class_rule, value_rule, cell_rule, cell_pla
 
 mod places;
 
-pub use places::{
-    Span, cell_bits, cell_class, cell_null, cell_value, row_class, spans, table_spans,
-};
+pub use places::{Span, cell_bits, cell_class, cell_null, cell_value, row_class, table_spans};
 use word::{Reason, Record, Refusal};
 
 // Stays: readers of this crate's own, `byte`, `half` and `record`; `check_over`, `row_size` and `table_spans` promise an answer for a catalogue of any bytes, and a byte past the end counts as 0.

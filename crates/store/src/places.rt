@@ -2,60 +2,11 @@
 // What is read by its place is not searched for.
 ghost use Rattle.std.specs.Prelude.{◌≡◌, ◌+◌, ◌*◌, ◌≤◌, ◌<◌, length, get_or, eqb};
 ghost use Rattle.word.specs.Bytes.{u16_at, u32_at, signed32};
-ghost use Rattle.word.specs.Buffer.{Wrote};
-ghost use Rattle.catalogue.specs.Starts.{starts_from};
-ghost use Rattle.store.specs.Layout.{place_of, end_from};
+ghost use Rattle.store.specs.Layout.{end_from};
 ghost use Rattle.store.specs.Rows.{value_of, cell_at};
-ghost use Rattle.store.specs.Spans.{spans_over, spans_array, spans_of, blank};
+ghost use Rattle.store.specs.Spans.{spans_of};
 
 use crate::{Layout, half, record, row_size};
-
-// Record i, if it is a table's, puts its three numbers at the places of table j; past the last place they are left out.
-fn note(
-    cat: &[u8],
-    n: usize,
-    store: &[u8],
-    i: usize,
-    at: usize,
-    slots: &mut [u16; 96],
-    j: usize,
-) -> usize
-    requires n_bound { (n ≤ 2080) × (i < n) × (j ≤ i) × (at ≤ 65528) × (at ≡ place_of cat.now n store.now i) }
-    requires slots_len { length slots.old ≡ 96 }
-    ensures { Wrote slots.old (3 * j) (spans_over cat.now n store.now (starts_from cat.now 1 i)) slots.new (3 * result) }
-{
-    if record(cat, i).kind != 1 {
-        return j;
-    }
-    if j < 32 {
-        let rows = half(store, at);
-        let size = row_size(cat, n, i);
-        let t = 3 * j;
-        slots[t] = (at + 2) as u16;
-        slots[t + 1] = rows;
-        slots[t + 2] = size as u16;
-        return j + 1;
-    }
-    j + 1
-}
-
-/// The spans of the tables among n records.
-pub fn spans(cat: &[u8], n: usize, store: &[u8]) -> [u16; 96]
-    requires { (n ≤ 2080) × (end_from cat.now n store.now n 0 8 ≤ 65528) }
-    ensures { result ≡ spans_array cat.now n store.now }
-{
-    let layout = Layout { cat, n, store };
-    let mut slots = [0u16; 96];
-    let mut j: usize = 0;
-    let mut i: usize = 0;
-    let mut at: usize = 8;
-    while i < n {
-        j = note(cat, n, store, i, at, &mut slots, j);
-        at = layout.place_after(i, at);
-        i += 1;
-    }
-    slots
-}
 
 /// Where the rows of a table stand in a store: the place of the first row, how many there are, the bytes of each.
 #[derive(Clone, Copy, PartialEq, Eq, Debug)]
