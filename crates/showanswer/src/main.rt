@@ -10,21 +10,25 @@ ghost use Rattle.std.specs.Prelude.{◌≡◌, length};
 use std::io::{self, Write};
 use std::rt::Files;
 
-// Writes so many rows of an answer, as far as it has them: cells of eight bytes each, two spaces between them.
-fn rows<W: Write>(to: &mut W, out: &[u8], count: usize, columns: usize) -> io::Result<()> {
+// Writes the cells of a row, eight bytes each, two spaces between them.
+fn row<W: Write>(to: &mut W, cells: &[u8]) -> io::Result<()> {
+    for (j, cell) in cells.chunks_exact(8).enumerate() {
+        if j > 0 {
+            to.write_all(b"  ")?;
+        }
+        write!(to, "{} {} ", cell[0], word::u16_at(cell, 2))?;
+        lines::print_signed(to, word::u32_at(cell, 4))?;
+    }
+    writeln!(to)
+}
+
+// Writes so many rows of an answer; a row has a cell at least.
+fn rows<W: Write>(to: &mut W, out: &[u8], count: usize, columns: u16) -> io::Result<()> {
     let Some(cells) = out.get(8..) else {
         return Ok(());
     };
-    let mut cells = cells.chunks_exact(8);
-    for _ in 0..count {
-        for (j, cell) in cells.by_ref().take(columns).enumerate() {
-            if j > 0 {
-                to.write_all(b"  ")?;
-            }
-            write!(to, "{} {} ", cell[0], word::u16_at(cell, 2))?;
-            lines::print_signed(to, word::u32_at(cell, 4))?;
-        }
-        writeln!(to)?;
+    for cells in cells.chunks_exact(8 * usize::from(columns.max(1))).take(count) {
+        row(to, cells)?;
     }
     Ok(())
 }
@@ -49,7 +53,7 @@ fn show<R: Files, W: Write>(rt: &R, to: &mut W, text: &[u8], k: u16, q: u16) -> 
     );
     match result {
         // The root of a tree says how many values it has.
-        Ok(count) => rows(to, &out, count, usize::from(word::record_at(&tree, 0).b)),
+        Ok(count) => rows(to, &out, count, word::record_at(&tree, 0).b),
         Err(refusal) => lines::print_refusal(to, refusal),
     }
 }
