@@ -3,6 +3,7 @@
 #![tactic(auto)]
 
 use cases::{Case, Files};
+use resolve::Source;
 use std::io::{self, Read, Write};
 use word::Refusal;
 
@@ -12,10 +13,15 @@ fn of_view(cat: &[u8], view: &[u8], k: u16) -> Result<(), Refusal> {
     let n = view::check(view)?;
     let nc = usize::from(word::u16_at(cat, 6));
     let starts = catalogue::starts(cat, nc);
-    let f = resolve::Files { nc, tables, n, k };
+    let source = Source {
+        cat,
+        starts: &starts,
+        view,
+        files: resolve::Files { nc, tables, n, k },
+    };
     let mut notes = [0u64; 1024];
     let mut ends = [0u64; 33];
-    resolve::whole(cat, &starts, view, f, &mut notes, &mut ends)?;
+    resolve::whole(&source, &mut notes, &mut ends)?;
     Ok(())
 }
 
