@@ -3,18 +3,22 @@
 #![tactic(auto)]
 
 ghost use Rattle.std.specs.Prelude.{◌≡◌};
+ghost use Rattle.word.specs.Refusal.{said};
 ghost use Rattle.filter.specs.Steps.{word_of, TranslatedWord, AnsweredWord};
 
+use word::Refusal;
+
 // A result as one number: number + 65536 × place + 2^32 × count.
-fn word_of(r: filter::Result) -> u64
-    ensures { result ≡ word_of r }
+fn word_of(given: Result<usize, Refusal>) -> u64
+    ensures { result ≡ word_of (said given) }
 {
-    let number = r.number;
-    let place = r.place;
-    let count = r.count;
-    (number as u64) + 65536 * ((place % 65536) as u64) + 4294967296 * ((count % 65536) as u64)
+    match given {
+        Ok(count) => 4294967296 * (count % 65536) as u64,
+        Err(refusal) => u64::from(refusal.reason.number()) + 65536 * u64::from(refusal.place),
+    }
 }
 
+// Stays: both exports have many parameters, pointers with their lengths and the two classes: the C interface, wayrinka_translate and wayrinka_answer of include/wayrinka.h (a).
 #[unsafe(no_mangle)]
 pub extern "C" fn wayrinka_translate(
     cat: &[u8],
@@ -25,8 +29,7 @@ pub extern "C" fn wayrinka_translate(
 ) -> u64
     ensures { TranslatedWord cat.now view.now k q tree.old tree.new result }
 {
-    let r = filter::translate(cat, view, k, q, tree);
-    word_of(r)
+    word_of(filter::translate(cat, view, k, q, tree))
 }
 
 #[unsafe(no_mangle)]
@@ -41,6 +44,5 @@ pub extern "C" fn wayrinka_answer(
 ) -> u64
     ensures { AnsweredWord cat.now view.now k q store.now tree.old out.old tree.new out.new result }
 {
-    let r = filter::answer(cat, view, k, q, tree, store, out);
-    word_of(r)
+    word_of(filter::answer(cat, view, k, q, tree, store, out))
 }
