@@ -31,7 +31,7 @@ pub enum Pick {
 }
 
 /// What a record says: its kind with the fields that the kind has. Bad: an unknown kind or op, or a field out of rule.
-// Stays: `Bad` (reason a), a case of the definition `node_of` of specs/Record, which the definitions of the crates above take apart.
+// Stays: `Bad` is a case of the definition `node_of` of specs/Record, which the definitions of the crates above take apart.
 #[derive(Clone, Copy, PartialEq, Eq, Debug)]
 pub enum Node {
     Const(cell::Type, cell::Value),
@@ -132,9 +132,9 @@ pub(crate) fn is_in_rule(fields: Record) -> bool
     let op = fields.op;
     let a = fields.a;
     let plain = (op == 0) & (fields.c == 0);
-    // Stays: comparisons (reason c). With `(1..=4).contains(&a)` the arms that test a second range are left open, also by a law for each kind.
+    // Stays: comparisons, since with `(1..=4).contains(&a)` the proofs of the arms that test a second range stayed open, also with a law for each kind.
     let over = (1 <= a) & (a <= 4);
-    // Stays: an arm for each kind (reason b). Arms that share a pattern, as `14 | 15`, are compiled to a ladder of tests, and the check of a view then took a fifth longer.
+    // Stays: an arm for each kind. Arms that share a pattern, as `14 | 15`, are compiled to a ladder of tests, and the check of a view then took a fifth longer.
     match fields.kind {
         1 => bare(fields),
         2 => (op <= 1) & op_only(fields),
@@ -280,7 +280,7 @@ fn value(reader: &mut Reader<'_>, depth: u16) -> Result<(), Refusal>
 }
 
 /// So many values.
-// Stays: a loop like that of `tables` (reason d). One function over what is read would need a closure in the cycle of calls, and its clause would be longer than the loop.
+// Stays: a loop like that of `tables`, three lines each. One function over what is read would need a closure in the cycle of calls, and its clause would be longer than the loop.
 #[cycle(block_value_values)]
 #[tactic(auto, using(crate::proofs::Turns::repeats))]
 fn values(reader: &mut Reader<'_>, count: u16, depth: u16) -> Result<(), Refusal>
