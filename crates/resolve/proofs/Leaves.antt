@@ -1,26 +1,22 @@
--- The functions of `steps`: one law for each way out, over what the code has found there.
+-- What is known of a value and of a class, from what is known of the parts: one law for each method that adds sizes.
 -- Assumes nothing.
 use Prim.Native.Nat.{ℕ, ◌+◌}
 use mathlib.Core.Path.{◌≡◌, refl, sym, ap, ◌∙◌}
 use mathlib.Core.Bool.{Bool, true, false, not}
 use native.Mathlib.Omega.{arith}
 use borrow.Author.Rules.{rules}
-use borrow.Author.Tests.{eq-eqb, ne_eqb}
-use Rattle.word.specs.Refusal.{Checked, fine, refusal}
+use Rattle.word.specs.Refusal.{fine}
 use Rattle.class.specs.Info.{join_i, choice_i}
 use Rattle.class.specs.declared.Info.{Info}
-use Rattle.class.specs.declared.Info.TheVariants.{Fixed, Bound}
-use Rattle.cell.specs.Res.{Res, stuck, done, option_of}
-use Rattle.cell.specs.Types.{kind_of, binop_type, limb_type, same_type, judged_of}
+use Rattle.cell.specs.Res.{option_of}
+use Rattle.cell.specs.Types.{limb_type, same_type}
 use Rattle.cell.specs.declared.Type.{«Type» as Ty}
 use Rattle.cell.specs.declared.Type.TheVariants as T
 use Rattle.cell.proofs.Equal.{type_eqb, same_eq, boolean_eq}
 use Rattle.cell.proofs.Options.{some_is}
 use Rattle.std.specs.Prelude.{Some}
-use Rattle.scope.specs.declared.Found.{Found}
-use Rattle.scope.specs.declared.Found.TheVariants as F
-use Rattle.resolve.specs.Sizes.{sized_i, weighed, join_w, choice_w, bind_size, let_w, capped}
-use Rattle.resolve.specs.Steps.{class_of, stopped, known_by, leaf_k, two_k, not_k, brought_k, if_k, let_k, ruled_t, bool_t, two_t, not_t, if_t, col_t, class_t}
+use Rattle.resolve.specs.Sizes.{weighed, join_w, choice_w, bind_size, let_w, capped}
+use Rattle.resolve.specs.Steps.{class_of, stopped, known_by, leaf_k, two_k, not_k, brought_k, if_k, let_k, ruled_t, bool_t, if_t}
 use Rattle.resolve.specs.declared.Weighed.{Weighed}
 use Rattle.resolve.specs.declared.Known.{Known}
 use Rattle.resolve.proofs.Weights.{Alike, alike_refl, alike_trans, weighed_alike, join_alike, known_alike}

@@ -26,7 +26,6 @@ use Rattle.view.specs.declared.Fold.TheVariants as fold
 use Rattle.view.specs.declared.Node.TheVariants.{Exists}
 use Rattle.view.proofs.Constants.{ruled_at}
 use Rattle.view.proofs.Says.{exists_digits}
-use Rattle.scope.specs.Scopes.{block, local}
 use Rattle.scope.specs.Table.{tabs_at, open_of, blank, scopes_of}
 use Rattle.scope.specs.Entry.{local_scope, table_in, type_in}
 use Rattle.scope.specs.declared.Scope.{Scope}

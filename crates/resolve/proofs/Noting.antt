@@ -1,21 +1,17 @@
--- The functions that note: one law for each place of their code, over what the code has found there; and laws of stores.
+-- Stores, one behind the other; a limb's mark before and behind a run; and the loop over a block's TABLE records.
 -- Assumes nothing.
 use Prim.Native.Nat.{ℕ, zero, suc, ◌+◌, ◌*◌, ◌%◌, ◌<◌, ◌≤◌}
 use mathlib.Core.Path.{◌≡◌, refl, sym, ap, ◌∙◌}
-use mathlib.Core.Bool.{Bool, true, false, not, cond}
+use mathlib.Core.Bool.{Bool, true, false, cond}
 use mathlib.Core.List.{List, [], ◌∷◌, ◌++◌, map}
 use native.Mathlib.Omega.{arith}
 use native.Mathlib.Numerals.{add-one}
 use native.Mathlib.Decide.{dec_lt}
-use borrow.Author.Rules.{rules}
 use lib.ListN.{length, get_or, set, drop, length-map, drop_of_length-le}
 use lib.Seq.{drop-cons, set_out, set-set, set_comm, get_or-set_same}
 use Rattle.std.specs.Prelude.{Option, Some, None}
 use Rattle.word.specs.Buffer.{put}
 use Rattle.word.proofs.Writing.{put_append, put_nil, length_put, put_before}
-use Rattle.word.specs.Refusal.{Checked, fine, refusal}
-use Rattle.class.specs.declared.Info.{Info}
-use Rattle.class.specs.declared.Info.TheVariants.{Fixed, Bound}
 use Rattle.cell.specs.Res.{done, nth}
 use Rattle.cell.specs.Types.{digits_of, scale_of, same_type}
 use Rattle.cell.specs.declared.Type.{«Type» as Ty}
@@ -24,13 +20,9 @@ use Rattle.catalogue.specs.Starts.{ref_of}
 use Rattle.view.specs.Record.{node_at}
 use Rattle.view.specs.Parse.{name_of, names_at}
 use Rattle.scope.specs.Blocks.{all, refs_of, tables_named}
-use Rattle.scope.specs.declared.Found.{Found}
-use Rattle.scope.specs.declared.Found.TheVariants as F
 use Rattle.scope.proofs.Named.{names_length, number_again}
 use Rattle.resolve.specs.Notes.{marked, numbers_at, marked_at}
 use Rattle.resolve.specs.Claims.{Tabled}
-use Rattle.resolve.specs.declared.Known.{Known}
-use Rattle.resolve.proofs.Scoped.{not_true, not_false}
 
 -- ---- stores
 
@@ -125,11 +117,6 @@ number_at (t ∷ ts) (suc j) h = number_at ts j (omega arith)
 pub record Numbered (c : List ℕ) (n : ℕ) (v : List ℕ) (at count : ℕ) (o₀ o : List ℕ) (j : ℕ) : Type 0 where
   pub few : j ≤ count
   pub todo : put o (at + j) (drop j (numbers_at c n v at count)) ≡ put o₀ at (numbers_at c n v at count)
-
-pub numbers_begin : (c : List ℕ) (n : ℕ) (v : List ℕ) (at count : ℕ) (o : List ℕ) → Numbered c n v at count o o 0
-numbers_begin c n v at count o =
-    let e : at + 0 ≡ at = omega arith in
-    record { few = omega arith; todo = ap (λ (i : ℕ). put o i (numbers_at c n v at count)) e }
 
 -- there are as many numbers as TABLE records
 pub numbers_length : (c : List ℕ) (n : ℕ) (v : List ℕ) (at count : ℕ) (ts : List TabRef) → tables_named (tables_from c n n 0) (names_at v at count) ≡ all ts → length (numbers_at c n v at count) ≡ count

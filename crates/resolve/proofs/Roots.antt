@@ -6,8 +6,6 @@ use mathlib.Core.Bool.{Bool, true, false, not, cond}
 use mathlib.Core.List.{List, [], ◌∷◌}
 use native.Mathlib.Omega.{arith}
 use borrow.Author.Rules.{rules}
-use borrow.Author.Tests.{eq-eqb, ne_eqb}
-use types.Run.{OneOf, miss}
 use lib.Dec.{eqb}
 use lib.ListN.{length, get_or, replicate}
 use Rattle.word.specs.Header.{count_at}
@@ -295,10 +293,6 @@ module _ (c ss v : List ℕ) (f : Files) (tables count : ℕ) (w : Rooted c ss v
             root_9 e = sym (judged ∙ rw (boolean_eq known.t, ← type_is, not_true (type_eqb x.ty T.Boolean) (sym m ∙ e)))
 
 -- THE WHOLE VIEW
--- SELECT's variant is none of the others
-pub no_other : OneOf (0 ∷ 1 ∷ 2 ∷ 3 ∷ 4 ∷ 5 ∷ 6 ∷ 8 ∷ 9 ∷ 10 ∷ 11 ∷ []) 7 → ⊥
-no_other = miss (0 ∷ 1 ∷ 2 ∷ 3 ∷ 4 ∷ 5 ∷ 6 ∷ 8 ∷ 9 ∷ 10 ∷ 11 ∷ []) 7 tt
-
 module _ (c ss v : List ℕ) (f : Files) (w : Accepted c ss v f) where
   pub whole_taken : Taken v
   whole_taken = taken v refl w.taken

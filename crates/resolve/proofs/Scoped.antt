@@ -1,9 +1,9 @@
 -- The walk where a scope opens, LET and the blocks: one law for each place of its code.
 -- Assumes nothing.
-use Prim.Native.Nat.{ℕ, zero, suc, ◌+◌, ◌-◌, ◌*◌, ◌<◌, ◌≤◌}
-use mathlib.Core.Path.{◌≡◌, refl, sym, ap, ap₂, ◌∙◌}
+use Prim.Native.Nat.{ℕ, ◌+◌, ◌-◌, ◌*◌, ◌<◌, ◌≤◌}
+use mathlib.Core.Path.{◌≡◌, refl, sym, ap, ◌∙◌}
 use mathlib.Core.Bool.{Bool, true, false, not}
-use mathlib.Core.List.{List, [], ◌∷◌, map}
+use mathlib.Core.List.{List, ◌∷◌, map}
 use native.Mathlib.Omega.{arith}
 use lib.ListN.{length, get_or, set, length-set}
 use lib.Seq.{set-set, set-get_or}
@@ -12,22 +12,21 @@ use Rattle.std.specs.Result.{IsErrAnd}
 use Rattle.word.specs.Refusal.{Checked, fine, refusal, said, number_of}
 use Rattle.word.specs.declared.refusal.Refusal.{Refusal}
 use Rattle.class.specs.declared.Info.TheVariants.{Fixed}
-use Rattle.cell.specs.Res.{Res, stuck, done}
-use Rattle.catalogue.specs.Tables.{Table, TabRef, table_named, tables_from}
+use Rattle.catalogue.specs.Tables.{Table, tables_from}
 use Rattle.view.specs.Ast.{Exp, WasRead}
 use Rattle.view.specs.Ast as ast
 use Rattle.view.specs.Record.{node_at}
-use Rattle.view.specs.Parse.{name_of, names_at, parse_value}
+use Rattle.view.specs.Parse.{names_at, parse_value}
 use Rattle.view.specs.declared.Fold.{Fold}
 use Rattle.view.specs.declared.Pick.{Pick}
 use Rattle.view.specs.declared.Node.{Node}
-use Rattle.view.specs.declared.Node.TheVariants.{Const, Binop, Not, If, Exists, Single, Table as TableNode, Select, Col, Classof, Let, Bad}
+use Rattle.view.specs.declared.Node.TheVariants.{Exists, Single, Let}
 use Rattle.view.proofs.Read as read
 use Rattle.view.proofs.Read.{One, Two, Listed, was_read}
 use Rattle.view.proofs.Says.{exists_few, single_few}
 use Rattle.scope.specs.Scopes.{local}
 use Rattle.scope.specs.Table.{open_of, scopes_of, infos_of}
-use Rattle.scope.specs.Blocks.{Tabs, all, missing, before, found_at, tables_named, refs_of, opened}
+use Rattle.scope.specs.Blocks.{Tabs, missing, tables_named, refs_of, opened}
 use Rattle.scope.specs.Entry.{local_scope, opened_by, tables_in, type_in}
 use Rattle.scope.specs.declared.Scope.{Scope}
 use Rattle.scope.proofs.Pushes as push

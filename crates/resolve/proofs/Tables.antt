@@ -6,18 +6,13 @@ use mathlib.Core.List.{List, [], ◌∷◌, ◌++◌, map}
 use native.Mathlib.Omega.{arith}
 use native.Mathlib.Numerals.{add-one}
 use borrow.Author.Rules.{rules}
-use borrow.Author.Tests.{eq-eqb, ne_eqb}
 use lib.ListN.{length, get_or, drop, drop_of_length-le}
 use lib.Seq.{drop-cons}
-use Rattle.word.specs.Refusal.{fine, refusal}
 use Rattle.class.specs.Class.{lub_all}
 use Rattle.class.specs.Info.{bound_of, join_i, choice_i}
 use Rattle.class.specs.declared.Info.{Info}
 use Rattle.class.specs.declared.Info.TheVariants.{Fixed, Bound}
-use Rattle.cell.specs.Types.{kind_of, judged_of}
 use Rattle.cell.specs.declared.Type.{«Type» as Ty}
-use Rattle.cell.specs.declared.Judged.{Judged}
-use Rattle.cell.specs.declared.Judged.TheVariants as J
 use Rattle.catalogue.specs.Tables.{Table, TabRef}
 use Rattle.view.specs.declared.Fold.{Fold}
 use Rattle.view.specs.declared.Pick.{Pick}
@@ -25,10 +20,10 @@ use Rattle.scope.specs.Table.{tabs_at, open_of}
 use Rattle.scope.specs.Entry.{count_in, tables_in, rows_of, classes_of}
 use Rattle.scope.specs.declared.Scope.{Scope}
 use Rattle.scope.proofs.Blocks.{tables_in_lem}
-use Rattle.resolve.specs.Totals.{fold_type, pick_type}
+use Rattle.resolve.specs.Totals.{fold_type}
 use Rattle.resolve.specs.Infos.{table_class, join_all_i, block_i}
 use Rattle.resolve.specs.Sizes.{weighed, join_w, joins_w, join_all_w, choice_w, rows_w, block_w, capped}
-use Rattle.resolve.specs.Steps.{class_of, stopped, known_by, agg_w, refs_to, exists_k, single_k, ruled_t, bool_t, exists_t, single_t}
+use Rattle.resolve.specs.Steps.{class_of, stopped, known_by, agg_w, refs_to, exists_k, single_k, exists_t, single_t}
 use Rattle.resolve.specs.Claims.{Opening}
 use Rattle.resolve.specs.declared.Weighed.{Weighed}
 use Rattle.resolve.specs.declared.Known.{Known}

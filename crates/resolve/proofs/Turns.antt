@@ -56,10 +56,6 @@ module _ (c ss v : List ℕ) (f : Files) where
       let h = here_ok v f.n (d - 1) m r in
       record { lent = w.lent; sized = e; not_many = omega arith; is_read = r; here = h.here; left = h.left; narrow = s }
 
-  -- a record's number fits 16 bits, and so does the next
-  pub here_fits : (t : List Scope) (deep d at : ℕ) → Ready c ss v f t deep d at → at < 65535
-  here_fits t deep d at w = omega arith
-
   module _ (t : List Scope) (deep d at : ℕ) (nd : Node) (w : Ready c ss v f t deep d at) (e : nd ≡ node_at v at) where
     same : (m : ℕ) → WasRead (parse_value v f.n (d - 1) m) → Ready c ss v f t deep (d - 1) m
     same m r = child t t deep deep d at m w w.sized (omega arith) r w.narrow

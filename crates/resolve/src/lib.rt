@@ -8,7 +8,7 @@ mod select;
 mod steps;
 mod totals;
 
-ghost use Rattle.std.specs.Prelude.{◌≡◌, ◌+◌, ◌-◌, set};
+ghost use Rattle.std.specs.Prelude.{◌≡◌, ◌+◌, set};
 ghost use Rattle.word.specs.Refusal.{said};
 ghost use Rattle.view.specs.Record.{node_at};
 ghost use Rattle.resolve.specs.Notes.{NotedBy};

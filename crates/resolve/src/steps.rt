@@ -1,6 +1,6 @@
 // What is known of a value from what is known of its parts: one method for each kind of node. Sizes stop just above 8,190.
 // Every function is total.
-ghost use Rattle.std.specs.Prelude.{◌≡◌, ℕ, ◌+◌, ◌<◌};
+ghost use Rattle.std.specs.Prelude.{◌≡◌, ◌+◌, ◌<◌};
 ghost use Rattle.word.specs.Refusal.{said};
 ghost use Rattle.word.specs.declared.refusal.Reason.TheVariants as reason;
 ghost use Rattle.resolve.specs.Sizes.{capped, bind_size, weighed, join_w, choice_w, let_w};

@@ -1,6 +1,5 @@
 -- `resolve::value`, `resolve::block` and `resolve::within` meet their contracts: one law for each place of the code.
 -- Assumes nothing.
-use borrow.Author.Rules.{rules}
 use native.Mathlib.Omega.{arith}
 use mathlib.Core.Path.{refl, sym, ◌∙◌}
 use Rattle.view.proofs.Read.{here_ok}
