@@ -4,16 +4,17 @@
 
 ghost use Rattle.std.specs.Prelude.{◌≡◌, ◌+◌, ◌-◌, ◌*◌, ◌/◌, ◌%◌, ◌^◌, ◌≤◌, ◌<◌, length, get_or};
 ghost use Rattle.word.specs.Bytes.{u16_at};
-ghost use Rattle.word.specs.Record.{rec_at};
+ghost use Rattle.word.specs.Record.{kind_at, op_at, b_at, c_at};
+ghost use Rattle.class.specs.Info.{info_by};
 ghost use Rattle.word.specs.Refusal.{said};
 ghost use Rattle.store.specs.Layout.{class_rule, value_rule, cell_rule, cell_place, columns_from, row_size, place_after, place_of, end_from, cells_fault, row_fault, rows_fault, table_fault, fault_from, verdict_by, check_of, files_of};
 
 mod places;
 
 pub use places::{Span, cell_bits, cell_class, cell_null, cell_value, row_class, table_spans};
-use word::{Reason, Record, Refusal};
+use word::{Reason, Refusal};
 
-// Stays: readers of this crate's own, `byte`, `half` and `record`; `check_over`, `row_size` and `table_spans` promise an answer for a catalogue of any bytes, and a byte past the end counts as 0.
+// Stays: readers of this crate's own; `check_over`, `row_size` and `table_spans` promise an answer for a catalogue of any bytes, and a byte past the end counts as 0.
 
 // A byte; past the end it counts as 0.
 fn byte(bytes: &[u8], at: usize) -> u8
@@ -23,30 +24,41 @@ fn byte(bytes: &[u8], at: usize) -> u8
 }
 
 // The 16 bits at a place; a byte past the end counts as 0.
+#[tactic(auto, using(crate::proofs::Laws::byte_past))]
 fn half(bytes: &[u8], at: usize) -> u16
     requires { at + 1 < 2 ^ 64 }
     ensures { result ≡ u16_at bytes.now at }
 {
-    u16::from_le_bytes([byte(bytes, at), byte(bytes, at + 1)])
+    if at + 1 < bytes.len() {
+        word::u16_at(bytes, at)
+    } else {
+        u16::from(byte(bytes, at))
+    }
 }
 
-// Record i of a catalogue; a byte past the end counts as 0.
-#[tactic(auto, unfolding(word::specs::Record::rec_at))]
-fn record(cat: &[u8], i: usize) -> Record
+// Stays: a record's fields one by one; a whole `Record` for each cell proved, and the check of a full store took three times as long.
+// The kind of record i.
+fn kind(cat: &[u8], i: usize) -> u8
     requires { i < 2080 }
-    ensures { result ≡ rec_at cat.now i }
+    ensures { result ≡ kind_at cat.now i }
 {
-    let at = 8 + 8 * i;
-    if at + 8 <= cat.len() {
-        return word::record_at(cat, i);
-    }
-    Record {
-        kind: byte(cat, at),
-        op: byte(cat, at + 1),
-        a: half(cat, at + 2),
-        b: half(cat, at + 4),
-        c: half(cat, at + 6),
-    }
+    byte(cat, 8 + 8 * i)
+}
+
+// The word of the type of column record i.
+fn type_word(cat: &[u8], i: usize) -> u16
+    requires { i < 2080 }
+    ensures { result ≡ c_at cat.now i }
+{
+    half(cat, 8 + 8 * i + 6)
+}
+
+// What record i says of the class of its rows or cells.
+fn info(cat: &[u8], i: usize) -> class::Info
+    requires { i < 2080 }
+    ensures { result ≡ info_by (op_at cat.now i) (b_at cat.now i) }
+{
+    class::Info::by_op(byte(cat, 8 + 8 * i + 1), half(cat, 8 + 8 * i + 4))
 }
 
 // Whether the bits of a value keep the rule of its type, which is given by its word, and of its null mark.
@@ -77,13 +89,13 @@ pub fn cell_place(at: usize, j: usize) -> usize
 }
 
 // How many columns stand from record i on.
-#[tactic(auto, using(crate::proofs::Laws::columns), unfolding(word::specs::Record::rec_at))]
+#[tactic(auto, using(crate::proofs::Laws::columns))]
 fn columns_from(cat: &[u8], n: usize, i: usize) -> usize
     requires { (n ≤ 2080) × (i ≤ n) }
     ensures { (result ≡ columns_from cat.now (n - i) i) × (result ≤ 2080) }
 {
     for k in i..n {
-        if record(cat, k).kind != 2 {
+        if kind(cat, k) != 2 {
             return k - i;
         }
     }
@@ -122,17 +134,16 @@ struct Layout<'a> {
 
 impl<'a> Layout<'a> {
     // Whether the class at a place keeps what record i says.
-    #[tactic(auto, unfolding(crate::specs::Layout::class_rule, word::specs::Record::rec_at))]
+    #[tactic(auto, unfolding(crate::specs::Layout::class_rule))]
     fn class_rule(&self, i: usize, at: usize) -> bool
         requires { (i < 2080) × (at + 2 ≤ length self.now.store.now) }
         ensures { result ≡ class_rule self.now.cat.now i self.now.store.now at }
     {
-        let here = record(self.cat, i);
-        class::Info::by_op(here.op, here.b).admits(word::u16_at(self.store, at))
+        info(self.cat, i).admits(word::u16_at(self.store, at))
     }
 
     // Whether the cell at a place keeps the rule of column record j.
-    #[tactic(auto, unfolding(crate::specs::Layout::cell_rule, word::specs::Record::rec_at))]
+    #[tactic(auto, unfolding(crate::specs::Layout::cell_rule))]
     fn cell_rule(&self, j: usize, at: usize) -> bool
         requires { (j < 2080) × (at + 8 ≤ length self.now.store.now) }
         ensures { result ≡ cell_rule self.now.cat.now j self.now.store.now at }
@@ -142,19 +153,19 @@ impl<'a> Layout<'a> {
             && self.store[at + 1] == 0
             && self.class_rule(j, at + 2)
             && value_rule(
-                record(self.cat, j).c,
+                type_word(self.cat, j),
                 mark,
                 word::u32_at(self.store, at + 4),
             )
     }
 
     // The place behind record i's table: a table takes at most 2 + 65,536 · 16,642 = 1,090,650,114 bytes.
-    #[tactic(auto, using(crate::proofs::Laws::all_few), unfolding(crate::specs::Layout::place_after, word::specs::Record::rec_at))]
+    #[tactic(auto, using(crate::proofs::Laws::all_few), unfolding(crate::specs::Layout::place_after))]
     fn place_after(&self, i: usize, at: usize) -> usize
         requires { (i < self.now.n) × (at ≤ 8 + 1090650114 * i) }
         ensures { (result ≡ place_after self.now.cat.now self.now.n self.now.store.now i at) × (result ≤ 8 + 1090650114 * (i + 1)) }
     {
-        if record(self.cat, i).kind == 1 {
+        if kind(self.cat, i) == 1 {
             return at + 2 + usize::from(half(self.store, at)) * row_size(self.cat, self.n, i);
         }
         at
@@ -173,7 +184,7 @@ impl<'a> Layout<'a> {
     }
 
     // The first fault in the cells of the row at a place, whose columns stand from record i on.
-    #[tactic(auto, using(crate::proofs::Laws::cells), unfolding(word::specs::Record::rec_at))]
+    #[tactic(auto, using(crate::proofs::Laws::cells))]
     fn check_cells(&self, i: usize, at: usize) -> Result<(), Refusal>
         requires n_bound { i ≤ self.now.n }
         requires inside { cell_place at (columns_from self.now.cat.now (self.now.n - i) i) ≤ length self.now.store.now }
@@ -181,7 +192,7 @@ impl<'a> Layout<'a> {
         ensures { said result ≡ verdict_by (cells_fault self.now.cat.now self.now.store.now (self.now.n - i) i at 0) }
     {
         for k in i..self.n {
-            if record(self.cat, k).kind != 2 {
+            if kind(self.cat, k) != 2 {
                 return Ok(());
             }
             let place = cell_place(at, k - i);
@@ -223,7 +234,7 @@ impl<'a> Layout<'a> {
     }
 
     // The first fault in the tables of n records, all of which stand inside the store.
-    #[tactic(auto, using(crate::proofs::Laws::faults), unfolding(crate::specs::Layout::table_fault, word::specs::Record::rec_at))]
+    #[tactic(auto, using(crate::proofs::Laws::faults), unfolding(crate::specs::Layout::table_fault))]
     fn check_tables(&self) -> Result<(), Refusal>
         requires ends { end_from self.now.cat.now self.now.n self.now.store.now self.now.n 0 8 ≡ length self.now.store.now }
         requires short { length self.now.store.now ≤ 65528 }
@@ -231,7 +242,7 @@ impl<'a> Layout<'a> {
     {
         let mut at = 8;
         for i in 0..self.n {
-            if record(self.cat, i).kind == 1 {
+            if kind(self.cat, i) == 1 {
                 self.check_rows(i, at)?;
             }
             at = self.place_after(i, at);

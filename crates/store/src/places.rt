@@ -6,7 +6,7 @@ ghost use Rattle.store.specs.Layout.{end_from};
 ghost use Rattle.store.specs.Rows.{value_of, cell_at};
 ghost use Rattle.store.specs.Spans.{spans_of};
 
-use crate::{Layout, half, record, row_size};
+use crate::{Layout, half, kind, row_size};
 
 /// Where the rows of a table stand in a store: the place of the first row, how many there are, the bytes of each.
 #[derive(Clone, Copy, PartialEq, Eq, Debug)]
@@ -35,7 +35,7 @@ pub fn table_spans(cat: &[u8], n: usize, store: &[u8]) -> [Span; 32]
     let mut tables = 0;
     let mut at = 8;
     for i in 0..n {
-        if record(cat, i).kind == 1 {
+        if kind(cat, i) == 1 {
             if tables < spans.len() {
                 spans[tables] = Span {
                     first: (at + 2) as u16,
