@@ -2,7 +2,7 @@
 // The value at a record is that of specs/Claims.
 ghost use Rattle.std.specs.Prelude.{◌≡◌};
 ghost use Rattle.cell.specs.Res.{or_else};
-ghost use Rattle.cell.specs.Types.{digits_of, binop_type};
+ghost use Rattle.cell.specs.Types.{binop_type};
 ghost use Rattle.cell.specs.declared.Type.TheVariants.{Null};
 ghost use Rattle.tree.specs.Claims.{type_at, Accepted, found_type, found_info, row_info};
 
@@ -23,10 +23,7 @@ pub fn type_at(
 {
     let mut held = scope::words_of(t);
     match resolve::value(cat, starts, view, f, at, depth, &mut held, deep, pad) {
-        resolve::Typed::Is(x) => {
-            let ty = x.ty;
-            ty
-        }
+        resolve::Typed::Is(x) => x.ty,
         resolve::Typed::Refused(_, _) => cell::Type::Null,
     }
 }
@@ -41,13 +38,6 @@ pub fn binop_type(op: u8, s: cell::Type, t: cell::Type) -> cell::Type
     }
 }
 
-// The digits of a type; 0 where it isn't fixed.
-pub fn digits_of(ty: cell::Type) -> u16
-    ensures { result ≡ digits_of ty }
-{
-    cell::digits_of(ty) as u16
-}
-
 // The type of what a name finds; null where it finds nothing, or more than one.
 pub fn found_type(h: scope::Found) -> cell::Type
     ensures { result ≡ found_type h }
@@ -55,8 +45,7 @@ pub fn found_type(h: scope::Found) -> cell::Type
     match h {
         scope::Found::Column(_, _, _, ty, _, _) => ty,
         scope::Found::Local(_, ty, _) => ty,
-        scope::Found::None => cell::Type::Null,
-        scope::Found::Ambiguous => cell::Type::Null,
+        _ => cell::Type::Null,
     }
 }
 
@@ -67,8 +56,7 @@ pub fn found_info(h: scope::Found) -> class::Info
     match h {
         scope::Found::Column(_, _, _, _, i, _) => i,
         scope::Found::Local(_, _, i) => i,
-        scope::Found::None => class::Info::Fixed(0),
-        scope::Found::Ambiguous => class::Info::Fixed(0),
+        _ => class::Info::Fixed(0),
     }
 }
 
@@ -78,8 +66,6 @@ pub fn row_info(h: scope::Found) -> class::Info
 {
     match h {
         scope::Found::Column(_, _, _, _, _, row) => row,
-        scope::Found::Local(_, _, _) => class::Info::Fixed(0),
-        scope::Found::None => class::Info::Fixed(0),
-        scope::Found::Ambiguous => class::Info::Fixed(0),
+        _ => class::Info::Fixed(0),
     }
 }

@@ -16,8 +16,8 @@ ghost use Rattle.tree.specs.Claims.{type_at, info_at, data_at, limb_at, next_at,
 pub use noted::write_noted;
 pub use records::table_recs;
 
-// Where a writer stands after a value: the next record of the view, and the place in the buffer; and the value's type, and what is known of its class.
-#[derive(Drop)]
+/// Where a writer stands after a value: the next record of the view, and the place in the buffer; and the value's type, and what is known of its class.
+#[derive(Clone, Copy)]
 pub struct Pos {
     pub next: usize,
     pub to: usize,
@@ -25,8 +25,8 @@ pub struct Pos {
     pub info: class::Info,
 }
 
-// The data tree of the value at a record, with depth levels left, in the scopes of t that are open.
-// The pad is scratch for the walk of names and types; what it holds afterwards isn't said.
+/// The data tree of the value at a record, with depth levels left, in the scopes of t that are open.
+/// The pad is scratch for the walk of names and types; what it holds afterwards isn't said.
 #[cycle(write_block_write_d_write_limb)]
 pub fn write_d(
     cat: &[u8],
@@ -51,44 +51,26 @@ pub fn write_d(
     let next = at + 1;
     let down = depth - 1;
     match view::sound_at(view, at) {
-        view::Node::Const(ty, _) => {
-            let a = records::copy_const(view, at, out, to);
-            Pos {
-                next,
-                to: a,
-                ty,
-                info: class::Info::Fixed(f.k),
-            }
-        }
+        view::Node::Const(ty, _) => Pos {
+            next,
+            to: records::copy_const(view, at, out, to),
+            ty,
+            info: class::Info::Fixed(f.k),
+        },
         view::Node::Binop(op) => {
             let x = write_d(cat, starts, view, f, next, down, t, deep, out, to + 8, pad);
             let y = write_d(cat, starts, view, f, x.next, down, t, deep, out, x.to, pad);
-            let r = x.ty;
-            let s = y.ty;
-            let i = x.info;
-            let j = y.info;
-            let ty = known::binop_type(op, r, s);
-            let info = class::joined(i, j);
-            let p = known::digits_of(ty);
-            word::put_rec(out, to, 7, op, p, 0, 0);
+            let ty = known::binop_type(op, x.ty, y.ty);
+            word::put_rec(out, to, 7, op, u16::from(cell::digits_of(ty)), 0, 0);
             Pos {
-                next: y.next,
-                to: y.to,
                 ty,
-                info,
+                info: class::joined(x.info, y.info),
+                ..y
             }
         }
         view::Node::Not => {
             let a = word::put_rec(out, to, 8, 0, 0, 0, 0);
-            let x = write_d(cat, starts, view, f, next, down, t, deep, out, a, pad);
-            let ty = x.ty;
-            let info = x.info;
-            Pos {
-                next: x.next,
-                to: x.to,
-                ty,
-                info,
-            }
+            write_d(cat, starts, view, f, next, down, t, deep, out, a, pad)
         }
         view::Node::If => {
             let ty = known::type_at(cat, starts, view, f, at, depth, t, deep, pad);
@@ -100,99 +82,66 @@ pub fn write_d(
             let z = write_limb(
                 cat, starts, view, f, y.next, down, t, deep, ty, out, y.to, pad,
             );
-            let i = x.info;
-            let j = y.info;
-            let k = z.info;
-            let choice = class::chosen(j, k);
-            let info = class::joined(i, choice);
             Pos {
-                next: z.next,
-                to: z.to,
                 ty,
-                info,
+                info: class::joined(x.info, class::chosen(y.info, z.info)),
+                ..z
             }
         }
-        view::Node::Exists(a, q) => {
-            let x = write_block(
-                cat,
-                starts,
-                view,
-                f,
-                at,
-                depth,
-                t,
-                deep,
-                a as usize,
-                resolve::Asked::Rows(q),
-                out,
-                to,
-                pad,
-            );
-            let ty = x.ty;
-            let info = x.info;
-            Pos {
-                next: x.next,
-                to: x.to,
-                ty,
-                info,
-            }
-        }
-        view::Node::Single(a, g) => {
-            let x = write_block(
-                cat,
-                starts,
-                view,
-                f,
-                at,
-                depth,
-                t,
-                deep,
-                a as usize,
-                resolve::Asked::Values(g),
-                out,
-                to,
-                pad,
-            );
-            let ty = x.ty;
-            let info = x.info;
-            Pos {
-                next: x.next,
-                to: x.to,
-                ty,
-                info,
-            }
-        }
+        view::Node::Exists(a, q) => write_block(
+            cat,
+            starts,
+            view,
+            f,
+            at,
+            depth,
+            t,
+            deep,
+            usize::from(a),
+            resolve::Asked::Rows(q),
+            out,
+            to,
+            pad,
+        ),
+        view::Node::Single(a, g) => write_block(
+            cat,
+            starts,
+            view,
+            f,
+            at,
+            depth,
+            t,
+            deep,
+            usize::from(a),
+            resolve::Asked::Values(g),
+            out,
+            to,
+            pad,
+        ),
         view::Node::Col(name, q) => {
             let h = scope::find(t, cat, f.nc, deep, name, q);
-            let a = records::put_column(h, out, to);
-            let ty = known::found_type(h);
-            let info = known::found_info(h);
             Pos {
                 next,
-                to: a,
-                ty,
-                info,
+                to: records::put_column(h, out, to),
+                ty: known::found_type(h),
+                info: known::found_info(h),
             }
         }
         view::Node::Classof(name, q) => {
             let h = scope::find(t, cat, f.nc, deep, name, q);
-            let a = records::put_cell_class(h, out, to);
-            let info = known::row_info(h);
             Pos {
                 next,
-                to: a,
+                to: records::put_cell_class(h, out, to),
                 ty: cell::Type::Class,
-                info,
+                info: known::row_info(h),
             }
         }
         view::Node::Let(name) => {
             let a = word::put_rec(out, to, 23, 0, 0, 0, 0);
             let x = write_d(cat, starts, view, f, next, down, t, deep, out, a, pad);
-            let r = x.ty;
-            let i = x.info;
-            let s = scope::local_scope(name, r, i);
+            let s = scope::local_scope(name, x.ty, x.info);
             let u = scope::pushed(t, deep, s);
-            let y = write_d(
+            write_d(
                 cat,
                 starts,
                 view,
@@ -204,29 +153,9 @@ pub fn write_d(
                 out,
                 x.to,
                 pad,
-            );
-            let ty = y.ty;
-            let info = y.info;
-            Pos {
-                next: y.next,
-                to: y.to,
-                ty,
-                info,
-            }
+            )
         }
-        view::Node::Table(_) => Pos {
-            next,
-            to,
-            ty: cell::Type::Null,
-            info: class::Info::Fixed(0),
-        },
-        view::Node::Select(_, _) => Pos {
-            next,
-            to,
-            ty: cell::Type::Null,
-            info: class::Info::Fixed(0),
-        },
-        view::Node::Bad => Pos {
+        _ => Pos {
             next,
             to,
             ty: cell::Type::Null,
@@ -311,17 +240,11 @@ fn write_block(
         pad,
     );
     match asked {
-        resolve::Asked::Rows(q) => {
-            let ty = resolve::fold_type(q);
-            let i = x.info;
-            let info = resolve::exists_info(s, cat, f.nc, i);
-            Pos {
-                next: x.next,
-                to: x.to,
-                ty,
-                info,
-            }
-        }
+        resolve::Asked::Rows(q) => Pos {
+            ty: resolve::fold_type(q),
+            info: resolve::exists_info(s, cat, f.nc, x.info),
+            ..x
+        },
         resolve::Asked::Values(_) => {
             let y = write_d(
                 cat,
@@ -336,15 +259,9 @@ fn write_block(
                 x.to,
                 pad,
             );
-            let ty = y.ty;
-            let i = x.info;
-            let j = y.info;
-            let info = resolve::single_info(s, cat, f.nc, i, j);
             Pos {
-                next: y.next,
-                to: y.to,
-                ty,
-                info,
+                info: resolve::single_info(s, cat, f.nc, x.info, y.info),
+                ..y
             }
         }
     }

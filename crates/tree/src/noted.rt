@@ -84,11 +84,8 @@ pub fn write_noted(
     ensures { Wrote out.old to (noted_bytes view.now (notes_in notes.now at end) at) out.new result }
 {
     let mut u = to;
-    let mut i = at;
-    while i < end {
-        let w = notes[i];
-        u = put_record(view, i, w, out, u);
-        i += 1;
+    for i in at..end {
+        u = put_record(view, i, notes[i], out, u);
     }
     u
 }

@@ -11,7 +11,7 @@ ghost use Rattle.tree.specs.Claims.{refs_at, IsConst, const_tree, col_tree, clas
 // The constant at a record of a view: its record again.
 pub fn copy_const(view: &[u8], at: usize, out: &mut [u8], to: usize) -> usize
     requires at_in_bounds { 8 + 8 * at + 8 ≤ length view.now }
-    requires fact { IsConst (node_at view.now at) }
+    requires constant { IsConst (node_at view.now at) }
     requires room { Room out.old to (encode (const_tree (node_at view.now at))) }
     ensures { Wrote out.old to (encode (const_tree (node_at view.now at))) out.new result }
 {
@@ -27,8 +27,7 @@ pub fn put_column(h: scope::Found, out: &mut [u8], to: usize) -> usize
     match h {
         scope::Found::Column(a, b, c, _, _, _) => word::put_rec(out, to, 17, 0, a, b, c),
         scope::Found::Local(a, _, _) => word::put_rec(out, to, 20, 0, a, 0, 0),
-        scope::Found::None => word::put_rec(out, to, 1, 0, 0, 0, 0),
-        scope::Found::Ambiguous => word::put_rec(out, to, 1, 0, 0, 0, 0),
+        _ => word::put_rec(out, to, 1, 0, 0, 0, 0),
     }
 }
 
@@ -39,9 +38,7 @@ pub fn put_cell_class(h: scope::Found, out: &mut [u8], to: usize) -> usize
 {
     match h {
         scope::Found::Column(a, b, c, _, _, _) => word::put_rec(out, to, 18, 0, a, b, c),
-        scope::Found::Local(_, _, _) => word::put_rec(out, to, 1, 0, 0, 0, 0),
-        scope::Found::None => word::put_rec(out, to, 1, 0, 0, 0, 0),
-        scope::Found::Ambiguous => word::put_rec(out, to, 1, 0, 0, 0, 0),
+        _ => word::put_rec(out, to, 1, 0, 0, 0, 0),
     }
 }
 
@@ -128,12 +125,9 @@ pub fn table_recs(
     ensures { Wrote out.old to (table_recs (nums (refs_at cat.now n view.now at count))) out.new result }
 {
     let mut u = to;
-    let mut j: usize = 0;
-    while j < count {
-        let p = at + j;
+    for p in at..at + count {
         let k = scope::table_number(cat, n, starts, tables, view, p);
         u = word::put_rec(out, u, 12, 0, k as u16, 0, 0);
-        j += 1;
     }
     u
 }

@@ -4,8 +4,5 @@ use Prim.Native.Nat.{◌-◌}
 use Rattle.tree.proofs.Leaves.{Left}
 use Rattle.tree.proofs.records.table_recs.Given as goal
 
-abbrev pub invariant-loop-j : goal.invariant-loop-j
-invariant-loop-j l = Left l.cat l.n l.view l.at l.count l.initial.out l.to l.out l.u l.j
-
-abbrev pub decreases-loop-j : goal.decreases-loop-j
-decreases-loop-j l = l.count - l.j
+abbrev pub invariant-loop-p : goal.invariant-loop-p
+invariant-loop-p l = Left l.cat l.n l.view l.at l.count l.initial.out l.to l.out l.u (l.p - l.at)
