@@ -156,6 +156,26 @@ module _ (c ss v : List ℕ) (f : Files) (t : List Scope) (deep d at : ℕ) (w :
     pub no_bad : nd ≡ Bad → ⊥
     no_bad g = read.no_bad v f.n d at w.ready.is_read e g
 
+    -- it is one of these nine
+    pub no_other : ((s : Ty) (x : Value) → nd ≡ Const s x → ⊥) → ((op : ℕ) → nd ≡ Binop op → ⊥) → (nd ≡ Not → ⊥) → (nd ≡ If → ⊥)
+        → ((a : ℕ) (y : Fold) → nd ≡ Exists a y → ⊥) → ((a : ℕ) (y : Pick) → nd ≡ Single a y → ⊥) → ((name q : ℕ) → nd ≡ Col name q → ⊥) → ((name q : ℕ) → nd ≡ Classof name q → ⊥)
+        → ((name : ℕ) → nd ≡ Let name → ⊥) → ⊥
+    no_other c₁ b₁ n₁ i₁ e₁ s₁ l₁ k₁ t₁ = go nd refl
+      where
+        go : (x : Node) → nd ≡ x → ⊥
+        go (Const s x) g = c₁ s x g
+        go (Binop op) g = b₁ op g
+        go Not g = n₁ g
+        go If g = i₁ g
+        go (Exists a y) g = e₁ a y g
+        go (Single a y) g = s₁ a y g
+        go (Tab a) g = no_table g
+        go (Select a b) g = no_select g
+        go (Col name q) g = l₁ name q g
+        go (Classof name q) g = k₁ name q g
+        go (Let name) g = t₁ name g
+        go Bad g = no_bad g
+
     -- constants and names end after their own record
     pub const_is : {s : Ty} {x : Value} → nd ≡ Const s x → (expr_at c v f t deep d at ≡ expr.Expr.const s x) × (at + 1 ≡ next_at v f d at)
     unfolding next_at

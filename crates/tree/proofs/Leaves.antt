@@ -9,8 +9,7 @@ use native.Mathlib.Numerals.{add-one}
 use borrow.Author.Rules.{rules}
 use lib.ListN.{length, drop, drop_of_length-le}
 use Rattle.word.specs.Buffer.{put, Wrote, Room}
-use Rattle.word.specs.Record.{rec_at, rec_bytes}
-use Rattle.word.specs.declared.Rec.{Rec}
+use Rattle.word.specs.Record.{Record, rec_at, rec_bytes}
 use Rattle.word.proofs.Laws.{length_rec, room_rec}
 use Rattle.word.proofs.Writing.{front, after, Todo, todo_all, todo_same, todo_less, todo_none}
 use Rattle.class.specs.declared.Info.{Info}
@@ -42,7 +41,7 @@ use Rattle.resolve.specs.declared.Files.{Files}
 use Rattle.resolve.specs.declared.Known.{Known}
 use Rattle.resolve.specs.declared.Typed.{Typed}
 use Rattle.resolve.specs.declared.Typed.TheVariants as typed
-use Rattle.tree.specs.Tree.{Tree, tree_const, tree_binop, tree_not, tree_if, tree_exists, tree_value, tree_data, tree_cell_class, tree_row_class, tree_local, tree_local_class, tree_conv, tree_bind, tree_bind_class, tree_lub, tree_dom, tree_agg, size, encode, table_recs, fold_kind, fold_op, pick_kind}
+use Rattle.tree.specs.Tree.{rec_of, Tree, tree_const, tree_binop, tree_not, tree_if, tree_exists, tree_value, tree_data, tree_cell_class, tree_row_class, tree_local, tree_local_class, tree_conv, tree_bind, tree_bind_class, tree_lub, tree_dom, tree_agg, size, encode, table_recs, fold_kind, fold_op, pick_kind}
 use Rattle.tree.specs.Trans.{nums}
 use Rattle.tree.specs.Claims.{type_at, Accepted, refs_at, IsConst, const_tree, col_tree, class_tree, found_type, found_info, row_info, conv_bytes, block_kind, block_op}
 use Rattle.tree.proofs.Sizes.{length_encode}
@@ -77,61 +76,7 @@ module _ (j : Judged) (x : Res Ty) (e : j ≡ judged_of x) where
       go stuck g = refl
       go (done u) g = absurd (let z : ◌≡◌ {A = ℕ} 0 1 = cc in omega arith)
 
-module _ (h : Found) where
-  pub found_column : {a b c : ℕ} {t : Ty} {i j : Info} → h ≡ F.Column a b c t i j → t ≡ found_type h
-  unfolding found_type
-  found_column e = rw e
-
-  pub found_local : {a : ℕ} {t : Ty} {i : Info} → h ≡ F.Local a t i → t ≡ found_type h
-  unfolding found_type
-  found_local e = rw e
-
-  pub found_none : h ≡ F.None → T.Null ≡ found_type h
-  unfolding found_type
-  found_none e = rw e
-
-  pub found_more : h ≡ F.Ambiguous → T.Null ≡ found_type h
-  unfolding found_type
-  found_more e = rw e
-
-pub ruleset types = (rule_kept, rule_broken, found_column, found_local, found_none, found_more, rules)
-
--- ---- what is known of a class, by what a name finds
-
-module _ (h : Found) where
-  pub info_column : {a b c : ℕ} {t : Ty} {i j : Info} → h ≡ F.Column a b c t i j → i ≡ found_info h
-  unfolding found_info
-  info_column e = rw e
-
-  pub info_local : {a : ℕ} {t : Ty} {i : Info} → h ≡ F.Local a t i → i ≡ found_info h
-  unfolding found_info
-  info_local e = rw e
-
-  pub info_none : h ≡ F.None → Fixed 0 ≡ found_info h
-  unfolding found_info
-  info_none e = rw e
-
-  pub info_more : h ≡ F.Ambiguous → Fixed 0 ≡ found_info h
-  unfolding found_info
-  info_more e = rw e
-
-  pub row_column : {a b c : ℕ} {t : Ty} {i j : Info} → h ≡ F.Column a b c t i j → j ≡ row_info h
-  unfolding row_info
-  row_column e = rw e
-
-  pub row_local : {a : ℕ} {t : Ty} {i : Info} → h ≡ F.Local a t i → Fixed 0 ≡ row_info h
-  unfolding row_info
-  row_local e = rw e
-
-  pub row_none : h ≡ F.None → Fixed 0 ≡ row_info h
-  unfolding row_info
-  row_none e = rw e
-
-  pub row_more : h ≡ F.Ambiguous → Fixed 0 ≡ row_info h
-  unfolding row_info
-  row_more e = rw e
-
-pub ruleset infos = (info_column, info_local, info_none, info_more, row_column, row_local, row_none, row_more, rules)
+pub ruleset types = (rule_kept, rule_broken, rules)
 
 -- ---- room for a tree is room for a record
 
@@ -158,43 +103,6 @@ size_some (tree_agg ns x) = omega arith
 pub room_some : {o : List ℕ} {at : ℕ} (t : Tree) → Room o at (encode t) → at + 8 ≤ length o
 room_some t r = omega (arith, r.within, length_encode t, size_some t)
 
--- ---- names, by what they find
-
-module _ {o : List ℕ} {at : ℕ} {o₁ : List ℕ} {r : ℕ} (h : Found) where
-  pub col_column : {a b c : ℕ} {t : Ty} {i j : Info} → h ≡ F.Column a b c t i j → Wrote o at (rec_bytes 17 0 a b c) o₁ r → Wrote o at (encode (col_tree h)) o₁ r
-  unfolding col_tree encode
-  col_column e w = rw e w
-
-  pub col_local : {a : ℕ} {t : Ty} {i : Info} → h ≡ F.Local a t i → Wrote o at (rec_bytes 20 0 a 0 0) o₁ r → Wrote o at (encode (col_tree h)) o₁ r
-  unfolding col_tree encode
-  col_local e w = rw e w
-
-  pub col_none : h ≡ F.None → Wrote o at (rec_bytes 1 0 0 0 0) o₁ r → Wrote o at (encode (col_tree h)) o₁ r
-  unfolding col_tree encode const_rec
-  col_none e w = rw e w
-
-  pub col_more : h ≡ F.Ambiguous → Wrote o at (rec_bytes 1 0 0 0 0) o₁ r → Wrote o at (encode (col_tree h)) o₁ r
-  unfolding col_tree encode const_rec
-  col_more e w = rw e w
-
-  pub class_column : {a b c : ℕ} {t : Ty} {i j : Info} → h ≡ F.Column a b c t i j → Wrote o at (rec_bytes 18 0 a b c) o₁ r → Wrote o at (encode (class_tree h)) o₁ r
-  unfolding class_tree encode
-  class_column e w = rw e w
-
-  pub class_local : {a : ℕ} {t : Ty} {i : Info} → h ≡ F.Local a t i → Wrote o at (rec_bytes 1 0 0 0 0) o₁ r → Wrote o at (encode (class_tree h)) o₁ r
-  unfolding class_tree encode const_rec
-  class_local e w = rw e w
-
-  pub class_none : h ≡ F.None → Wrote o at (rec_bytes 1 0 0 0 0) o₁ r → Wrote o at (encode (class_tree h)) o₁ r
-  unfolding class_tree encode const_rec
-  class_none e w = rw e w
-
-  pub class_more : h ≡ F.Ambiguous → Wrote o at (rec_bytes 1 0 0 0 0) o₁ r → Wrote o at (encode (class_tree h)) o₁ r
-  unfolding class_tree encode const_rec
-  class_more e w = rw e w
-
-pub ruleset named = (room_some, col_column, col_local, col_none, col_more, class_column, class_local, class_none, class_more, rules)
-
 -- ---- CONV
 
 module _ {o : List ℕ} {at : ℕ} (s t : Ty) {b : Bool} (e : b ≡ same_type s t) where
@@ -214,64 +122,7 @@ module _ {o : List ℕ} {at : ℕ} (s t : Ty) {b : Bool} (e : b ≡ same_type s 
 
 pub ruleset converted = (conv_same, conv_room, conv_other, rules)
 
--- ---- a block's kind and op
-
-module _ {f : Fold} where
-  pub kind_any : f ≡ fold.Any → 10 ≡ fold_kind f
-  unfolding fold_kind
-  kind_any e = rw e
-
-  pub kind_count : {p : ℕ} → f ≡ fold.Count p → 28 ≡ fold_kind f
-  unfolding fold_kind
-  kind_count e = rw e
-
-  pub op_any : f ≡ fold.Any → 0 ≡ fold_op f
-  unfolding fold_op
-  op_any e = rw e
-
-  pub op_count : {p : ℕ} → f ≡ fold.Count p → 16 * p ≡ fold_op f
-  unfolding fold_op
-  op_count e = rw e
-
-  pub count_small : {p : ℕ} → f ≡ fold.Count p → fold_op f < 256 → 16 * p < 256
-  unfolding fold_op
-  count_small e h = rw e at h
-
-module _ {g : Pick} where
-  pub kind_only : g ≡ pick.Only → 11 ≡ pick_kind g
-  unfolding pick_kind
-  kind_only e = rw e
-
-  pub kind_greatest : g ≡ pick.Greatest → 29 ≡ pick_kind g
-  unfolding pick_kind
-  kind_greatest e = rw e
-
-  pub kind_least : g ≡ pick.Least → 30 ≡ pick_kind g
-  unfolding pick_kind
-  kind_least e = rw e
-
-module _ {a : Asked} where
-  pub kind_rows : {f : Fold} {r : ℕ} → a ≡ ask.Rows f → r ≡ fold_kind f → r ≡ block_kind a
-  unfolding block_kind
-  kind_rows e h = rw e h
-
-  pub kind_values : {g : Pick} {r : ℕ} → a ≡ ask.Values g → r ≡ pick_kind g → r ≡ block_kind a
-  unfolding block_kind
-  kind_values e h = rw e h
-
-  pub op_rows : {f : Fold} {r : ℕ} → a ≡ ask.Rows f → r ≡ fold_op f → r ≡ block_op a
-  unfolding block_op
-  op_rows e h = rw e h
-
-  pub op_values : {g : Pick} → a ≡ ask.Values g → 0 ≡ block_op a
-  unfolding block_op
-  op_values e = rw e
-
-  pub rows_small : {f : Fold} → a ≡ ask.Rows f → block_op a < 256 → fold_op f < 256
-  unfolding block_op
-  rows_small e h = rw e at h
-
-pub ruleset kinds = (kind_any, kind_count, op_any, op_count, count_small, kind_only, kind_greatest, kind_least, kind_rows, kind_values, op_rows, op_values, rows_small, rules)
+-- ---- a block's op
 
 -- in a view it is a byte
 pub op_small : (v : List ℕ) (at count : ℕ) (a : Asked) → node_at v at ≡ block_node a count → block_op a < 256
@@ -282,12 +133,11 @@ op_small v at count (ask.Values g) e = omega arith
 
 -- ---- a constant
 
-pub const_copied : {o : List ℕ} {to : ℕ} {o₁ : List ℕ} {n : ℕ} (v : List ℕ) (at : ℕ) (r : Rec) → IsConst (node_at v at) → r ≡ rec_at v at → Small r
-    → Wrote o to (rec_bytes r.kind r.op r.a r.b r.c) o₁ n → Wrote o to (encode (const_tree (node_at v at))) o₁ n
+pub const_copied : (v : List ℕ) (at : ℕ) (r : Record) → IsConst (node_at v at) → r ≡ rec_at v at → Small r → rec_of r ≡ encode (const_tree (node_at v at))
 unfolding const_tree encode
-const_copied {o} {to} {o₁} {n} v at r k e s w =
+const_copied v at r k e s =
     let g : r ≡ const_rec k.ty k.value = const_again r s (unfold node_at in ap node_of e ∙ k.is) in
-    rw k.is (subst (λ (x : Rec). Wrote o to (rec_bytes x.kind x.op x.a x.b x.c) o₁ n) g w)
+    rw k.is (ap (λ (x : Record). rec_of x) g)
 
 -- ---- TABLE records, a loop of writers
 

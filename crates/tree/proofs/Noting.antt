@@ -13,8 +13,7 @@ use lib.ListN.{length, get_or}
 use lib.Seq.{drop-cons}
 use Rattle.word.specs.Bytes.{within}
 use Rattle.word.specs.Buffer.{put, Wrote, Room}
-use Rattle.word.specs.Record.{kind_at, op_at, rec_at, rec_bytes}
-use Rattle.word.specs.declared.Rec.{Rec}
+use Rattle.word.specs.Record.{Record, kind_at, op_at, rec_at, rec_bytes}
 use Rattle.word.proofs.Laws.{length_rec}
 use Rattle.word.proofs.Writing.{then, wrote_as, front, after, Todo, todo_all, todo_same, todo_less, todo_none}
 use Rattle.view.specs.Record.{when, bare, op_only, a_only, counts, node_of, node_at, slot_of}
@@ -68,19 +67,6 @@ module _ (w : ℕ) where
       go true = length_rec 17 0 (w % 65536) (w / 65536 % 65536) (w / 4294967296 % 65536)
       go false = length_rec 20 0 (w % 65536) 0 0
 
-  module _ {o : List ℕ} {to : ℕ} where
-    pub name_room : Room o to (name_bytes w) → to + 8 ≤ length o
-    name_room r = omega (arith, r.within, length_name)
-
-    pub name_column : {o₁ : List ℕ} {r : ℕ} → w / 281474976710656 % 256 ≡ 0
-        → Wrote o to (rec_bytes 17 0 (w % 65536) (w / 65536 % 65536) (w / 4294967296 % 65536)) o₁ r → Wrote o to (name_bytes w) o₁ r
-    name_column e x = rw (name_data e) x
-
-    pub name_local : {o₁ : List ℕ} {r : ℕ} → (w / 281474976710656 % 256 ≡ 0 → ⊥) → Wrote o to (rec_bytes 20 0 (w % 65536) 0 0) o₁ r → Wrote o to (name_bytes w) o₁ r
-    name_local e x = rw (name_bound e) x
-
-pub ruleset names = (name_room, name_column, name_local, rules)
-
 -- ---- a record, by its kind
 
 -- a node of a value is no bad one
@@ -99,7 +85,7 @@ three a b c e =
     (eqb-true a 0 (and_left (eqb a 0) (eqb b 0 && eqb c 0) e), h.0, h.1)
 
 -- the kinds whose records are as they were
-module _ (r : Rec) where
+module _ (r : Record) where
   blank_copied : (k : ℕ) → r.kind ≡ k → bare r ≡ true → rec_bytes k 0 0 0 0 ≡ rec_of r
   blank_copied k e h =
       let a = two r.op r.a (and_left (eqb r.op 0 && eqb r.a 0) (eqb r.b 0 && eqb r.c 0) h) in
@@ -152,7 +138,7 @@ module _ (r : Rec) where
   copied : (w : ℕ) → Small r → (r.kind ≡ 7 → ⊥) → (r.kind ≡ 12 → ⊥) → (r.kind ≡ 14 → ⊥) → (r.kind ≡ 15 → ⊥) → (r.kind ≡ 16 → ⊥)
       → (nd : Node) → node_of r ≡ nd → Stands nd → plain_bytes nd w ≡ rec_of r
   unfolding plain_bytes slot_of
-  copied w s a b c d e (Const t x) g h = unfold encode in ap (λ (q : Rec). rec_of q) (sym (const_again r s g))
+  copied w s a b c d e (Const t x) g h = unfold encode in ap (λ (q : Record). rec_of q) (sym (const_again r s g))
   copied w s a b c d e (Binop op) g h = absurd (a (binop_kind (says_node r g)))
   copied w s a b c d e Not g h = not_copied (says_node r g)
   copied w s a b c d e If g h = if_copied (says_node r g)
@@ -181,7 +167,7 @@ length_plain (Let name) w h = length_rec 23 0 0 0 0
 length_plain Bad w h = absurd (let z = h.no_bad in omega arith)
 
 -- the kinds whose records change
-module _ (r : Rec) (w : ℕ) (s : Stands (node_of r)) where
+module _ (r : Record) (w : ℕ) (s : Stands (node_of r)) where
   binop_plain : r.kind ≡ 7 → plain_bytes (node_of r) w ≡ rec_bytes 7 r.op (w % 65536) 0 0
   unfolding plain_bytes
   binop_plain k = ap (λ (nd : Node). plain_bytes nd w) (kept (within 1 12 r.op && op_only r) (Binop r.op) (node_binop r k refl refl) s)
@@ -202,47 +188,30 @@ module _ (r : Rec) (w : ℕ) (s : Stands (node_of r)) where
   unfolding plain_bytes
   let_plain k = ap (λ (nd : Node). plain_bytes nd w) (kept (leb 1 r.a && a_only r) (Let r.a) (node_let r k refl refl) s)
 
-pub small_by : (q : Rec) → q.op < 256 → q.a < 65536 → q.b < 65536 → q.c < 65536 → Small q
-small_by q e f g h = record { op_small = e; a_small = f; b_small = g; c_small = h }
+module _ (v : List ℕ) (i w : ℕ) (s : Stands (node_at v i)) (q : Record) (e : q ≡ rec_at v i) where
+  stood : Stands (node_of q)
+  stood = unfold node_at in rw e s
 
-module _ (v : List ℕ) (i w : ℕ) (s : Stands (node_at v i)) {o : List ℕ} {to : ℕ} where
-  pub plain_room : Room o to (plain_bytes (node_at v i) w) → to + 8 ≤ length o
-  plain_room r = omega (arith, r.within, length_plain (node_at v i) w s)
+  nodes : node_of q ≡ node_at v i
+  nodes = unfold node_at in ap node_of e
 
-  module _ {kind : ℕ} (e : kind ≡ kind_at v i) where
-    pub name_asks : kind ≡ 14 → Room o to (plain_bytes (node_at v i) w) → Room o to (name_bytes w)
-    unfolding node_at rec_at
-    name_asks k r = room_as (col_plain (rec_at v i) w s (sym e ∙ k)) r
+  pub plain_binop : q.kind ≡ 7 → rec_bytes 7 q.op (w % 65536) 0 0 ≡ plain_bytes (node_at v i) w
+  plain_binop k = rw nodes at (sym (binop_plain q w stood k))
 
-    module _ {o₁ : List ℕ} {r : ℕ} where
-      pub plain_binop : {op : ℕ} → kind ≡ 7 → op ≡ op_at v i → Wrote o to (rec_bytes 7 op (w % 65536) 0 0) o₁ r → Wrote o to (plain_bytes (node_at v i) w) o₁ r
-      unfolding node_at rec_at
-      plain_binop k f x = wrote_as (ap (λ (p : ℕ). rec_bytes 7 p (w % 65536) 0 0) f ∙ sym (binop_plain (rec_at v i) w s (sym e ∙ k))) x
+  pub plain_table : q.kind ≡ 12 → rec_bytes 12 0 (w % 65536) 0 0 ≡ plain_bytes (node_at v i) w
+  plain_table k = rw nodes at (sym (table_plain q w stood k))
 
-      pub plain_table : kind ≡ 12 → Wrote o to (rec_bytes 12 0 (w % 65536) 0 0) o₁ r → Wrote o to (plain_bytes (node_at v i) w) o₁ r
-      unfolding node_at rec_at
-      plain_table k x = wrote_as (sym (table_plain (rec_at v i) w s (sym e ∙ k))) x
+  pub plain_name : (r : Record) → q.kind ≡ 14 → rec_of r ≡ name_bytes w → rec_of r ≡ plain_bytes (node_at v i) w
+  plain_name r k h = rw nodes at (h ∙ sym (col_plain q w stood k))
 
-      pub plain_name : kind ≡ 14 → Wrote o to (name_bytes w) o₁ r → Wrote o to (plain_bytes (node_at v i) w) o₁ r
-      unfolding node_at rec_at
-      plain_name k x = wrote_as (sym (col_plain (rec_at v i) w s (sym e ∙ k))) x
+  pub plain_classof : q.kind ≡ 15 → rec_bytes 18 0 (w % 65536) (w / 65536 % 65536) (w / 4294967296 % 65536) ≡ plain_bytes (node_at v i) w
+  plain_classof k = rw nodes at (sym (classof_plain q w stood k))
 
-      pub plain_classof : kind ≡ 15 → Wrote o to (rec_bytes 18 0 (w % 65536) (w / 65536 % 65536) (w / 4294967296 % 65536)) o₁ r → Wrote o to (plain_bytes (node_at v i) w) o₁ r
-      unfolding node_at rec_at
-      plain_classof k x = wrote_as (sym (classof_plain (rec_at v i) w s (sym e ∙ k))) x
+  pub plain_let : q.kind ≡ 16 → rec_bytes 23 0 0 0 0 ≡ plain_bytes (node_at v i) w
+  plain_let k = rw nodes at (sym (let_plain q w stood k))
 
-      pub plain_let : kind ≡ 16 → Wrote o to (rec_bytes 23 0 0 0 0) o₁ r → Wrote o to (plain_bytes (node_at v i) w) o₁ r
-      unfolding node_at rec_at
-      plain_let k x = wrote_as (sym (let_plain (rec_at v i) w s (sym e ∙ k))) x
-
-      pub plain_copied : (q : Rec) → q ≡ rec_at v i → Small q → (kind ≡ 7 → ⊥) → (kind ≡ 12 → ⊥) → (kind ≡ 14 → ⊥) → (kind ≡ 15 → ⊥) → (kind ≡ 16 → ⊥)
-          → Wrote o to (rec_bytes q.kind q.op q.a q.b q.c) o₁ r → Wrote o to (plain_bytes (node_at v i) w) o₁ r
-      unfolding node_at rec_at
-      plain_copied q g z a b c d f x =
-          let k : kind ≡ q.kind = e ∙ ap (λ (p : Rec). p.kind) (sym g) in
-          wrote_as (sym (copied q w z (λ y. a (k ∙ y)) (λ y. b (k ∙ y)) (λ y. c (k ∙ y)) (λ y. d (k ∙ y)) (λ y. f (k ∙ y)) (node_at v i) (ap node_of g) s)) x
-
-pub ruleset plains = (plain_room, name_asks, plain_binop, plain_table, plain_name, plain_classof, plain_let, plain_copied, small_by, rules)
+  pub plain_copied : Small q → (q.kind ≡ 7 → ⊥) → (q.kind ≡ 12 → ⊥) → (q.kind ≡ 14 → ⊥) → (q.kind ≡ 15 → ⊥) → (q.kind ≡ 16 → ⊥) → rec_of q ≡ plain_bytes (node_at v i) w
+  plain_copied z a b c d f = sym (copied q w z a b c d f (node_at v i) nodes s)
 
 -- ---- a record with its mark
 
@@ -252,15 +221,18 @@ module _ (nd : Node) (w : ℕ) {o : List ℕ} {to : ℕ} where
   mark_asks r = front _ r
 
   module _ {o₁ : List ℕ} {a : ℕ} (x : Wrote o to (mark_bytes (w / 72057594037927936)) o₁ a) where
-    pub plain_asks : Room o to (record_bytes nd w) → Room o₁ a (plain_bytes nd w)
+    plain_asks : Room o to (record_bytes nd w) → Room o₁ a (plain_bytes nd w)
     unfolding record_bytes
     plain_asks r = after x r
 
-    pub record_done : {o₂ : List ℕ} {b : ℕ} → Wrote o₁ a (plain_bytes nd w) o₂ b → Wrote o to (record_bytes nd w) o₂ b
-    unfolding record_bytes
-    record_done y = then x y
+    pub record_room : Stands nd → Room o to (record_bytes nd w) → a + 8 ≤ length o₁
+    record_room s r = omega (arith, (plain_asks r).within, length_plain nd w s)
 
-pub ruleset records = (mark_asks, plain_asks, record_done, rules)
+    pub record_done : (r : Record) {o₂ : List ℕ} {b : ℕ} → rec_of r ≡ plain_bytes nd w → Wrote o₁ a (rec_of r) o₂ b → Wrote o to (record_bytes nd w) o₂ b
+    unfolding record_bytes
+    record_done r e y = then x (wrote_as e y)
+
+pub ruleset records = (mark_asks, record_room, record_done, rules)
 
 -- ---- the loop: what is left of the bytes, from u on, comes to all of them, from `to` on
 

@@ -6,7 +6,7 @@ use mathlib.Core.List.{List, [], ◌∷◌, ◌++◌}
 use native.Mathlib.Omega.{arith}
 use lib.ListN.{length, set}
 use Rattle.word.specs.Buffer.{Wrote, Room}
-use Rattle.word.specs.Record.{rec_bytes}
+use Rattle.word.specs.Record.{Record, rec_bytes}
 use Rattle.word.proofs.Writing.{then, wrote_as, kept, front, after}
 use Rattle.class.specs.Info.{join_i, choice_i}
 use Rattle.class.specs.declared.Info.{Info}
@@ -37,9 +37,9 @@ use Rattle.resolve.specs.Claims.{Opening, block_node, Narrow, Tabled}
 use Rattle.resolve.specs.declared.Asked.{Asked}
 use Rattle.resolve.specs.declared.Asked.TheVariants as ask
 use Rattle.resolve.specs.declared.Files.{Files}
-use Rattle.tree.specs.Tree.{encode, table_recs}
+use Rattle.tree.specs.Tree.{rec_of, encode, table_recs}
 use Rattle.tree.specs.Trans.{nums}
-use Rattle.tree.specs.Claims.{type_at, info_at, data_at, limb_at, next_at, Accepted, refs_at, IsConst, const_tree, col_tree, class_tree, found_type, found_info, row_info, conv_bytes, block_kind, block_op}
+use Rattle.tree.specs.Claims.{type_at, info_at, data_at, limb_at, next_at, Accepted, refs_at, IsConst, const_tree, col_tree, class_tree, found_type, found_info, row_info, conv_bytes, block_kind, block_op, block_rec}
 use Rattle.tree.specs.declared.Pos.{Pos}
 use Rattle.tree.proofs.Narrow.{narrow_type}
 use Rattle.tree.proofs.Accepted.{LetIs, ExistsIs, SingleIs, const_is, const_type, col_is, classof_is, not_is, binop_is, if_is, let_is, block_is, exists_is, single_is}
@@ -210,10 +210,13 @@ module _ (c ss v : List ℕ) (f : Files) (t : List Scope) (deep d at : ℕ) (w :
         let_done p z q q₁ =
             (p ∙ let_way.next, (wrote_as (sym (let_bytes c ss v f t deep d at u l.next let_way)) (then x (then y z)), (q ∙ let_way.type_as, q₁ ∙ let_info c ss v f t deep d at u l.next let_way)))
 
-  -- A BLOCK: p is its entry, u the table with its scope open, k and q the kind and the op of its record
+  -- A BLOCK: p is its entry, u the table with its scope open, r₀ its record
   module _ {o : List ℕ} {to : ℕ} (r : Room o to (encode (data_at c v f t deep d at))) (asked : Asked) (count : ℕ) (g : node_at v at ≡ block_node asked count)
       (p : Opened) (i : p ≡ opened_by ss (tables_named (tables_from c f.nc f.nc 0) (names_at v (at + 1) count))) (u : List Scope) (j : u ≡ set t deep p.scope)
-      (k q : ℕ) (n : k ≡ block_kind asked) (m : q ≡ block_op asked) {o₁ : List ℕ} {a : ℕ} (x : Wrote o to (rec_bytes k q count 0 0) o₁ a) where
+      {r₀ : Record} (n : r₀ ≡ block_rec asked count) {o₁ : List ℕ} {a : ℕ} (x₀ : Wrote o to (rec_of r₀) o₁ a) where
+    x : Wrote o to (rec_bytes (block_kind asked) (block_op asked) count 0 0) o₁ a
+    x = rw n at x₀
+
     exists_way : (y : Fold) → asked ≡ ask.Rows y → ExistsIs c ss v f t u deep d at count y p.scope
     exists_way y e = exists_is c ss v f t deep d at w asked count g p i u j y e
 
@@ -227,16 +230,16 @@ module _ (c ss v : List ℕ) (f : Files) (t : List Scope) (deep d at : ℕ) (w :
     tables_ask = ((block_is c ss v f t deep d at w asked count g p i u j).tabled, go asked refl)
       where
         go : (b : Asked) → asked ≡ b → Room o₁ a (table_recs (nums (refs_at c f.nc v (at + 1) count)))
-        go (ask.Rows s) e = front _ (after x (room_as (exists_bytes c ss v f t deep d at asked count p.scope u k q n m s e (exists_way s e)) r))
-        go (ask.Values s) e = front _ (after x (room_as (single_bytes c ss v f t deep d at asked count p.scope u k q n m s _ e (single_way s _ e refl)) r))
+        go (ask.Rows s) e = front _ (after x (room_as (exists_bytes c ss v f t deep d at asked count p.scope u _ _ refl refl s e (exists_way s e)) r))
+        go (ask.Values s) e = front _ (after x (room_as (single_bytes c ss v f t deep d at asked count p.scope u _ _ refl refl s _ e (single_way s _ e refl)) r))
 
     module _ {o₂ : List ℕ} {b : ℕ} (y : Wrote o₁ a (table_recs (nums (refs_at c f.nc v (at + 1) count))) o₂ b) where
       pub where_asks : Accepted c ss v f u (deep + 1) (d - 1) (at + 1 + count) × Room o₂ b (encode (data_at c v f u (deep + 1) (d - 1) (at + 1 + count)))
       where_asks = ((block_is c ss v f t deep d at w asked count g p i u j).test, go asked refl)
         where
           go : (z : Asked) → asked ≡ z → Room o₂ b (encode (data_at c v f u (deep + 1) (d - 1) (at + 1 + count)))
-          go (ask.Rows s) e = after y (after x (room_as (exists_bytes c ss v f t deep d at asked count p.scope u k q n m s e (exists_way s e)) r))
-          go (ask.Values s) e = front _ (after y (after x (room_as (single_bytes c ss v f t deep d at asked count p.scope u k q n m s _ e (single_way s _ e refl)) r)))
+          go (ask.Rows s) e = after y (after x (room_as (exists_bytes c ss v f t deep d at asked count p.scope u _ _ refl refl s e (exists_way s e)) r))
+          go (ask.Values s) e = front _ (after y (after x (room_as (single_bytes c ss v f t deep d at asked count p.scope u _ _ refl refl s _ e (single_way s _ e refl)) r)))
 
       module _ (l : Pos) {o₃ : List ℕ} (h : l.next ≡ next_at v f (d - 1) (at + 1 + count)) (z : Wrote o₂ b (encode (data_at c v f u (deep + 1) (d - 1) (at + 1 + count))) o₃ l.to) where
         pub exists_done : {s : Fold} {ty : Ty} {info : Info} → asked ≡ ask.Rows s → ty ≡ fold_type s
@@ -246,7 +249,7 @@ module _ (c ss v : List ℕ) (f : Files) (t : List Scope) (deep d at : ℕ) (w :
             let is = exists_way s e in (
               h ∙ is.next,
               (
-                wrote_as (sym (exists_bytes c ss v f t deep d at asked count p.scope u k q n m s e is)) (then x (then y z)),
+                wrote_as (sym (exists_bytes c ss v f t deep d at asked count p.scope u _ _ refl refl s e is)) (then x (then y z)),
                 (b₁ ∙ is.type_as, j₁ ∙ ap (λ (z₁ : Info). block_i (refs_to (tables_in (open_of c f.nc p.scope))) (z₁ ∷ [])) i₁ ∙ exists_info c ss v f t deep d at count p.scope u s is),
               ),
             )
@@ -254,7 +257,7 @@ module _ (c ss v : List ℕ) (f : Files) (t : List Scope) (deep d at : ℕ) (w :
         pub single_asks : {s : Pick} → asked ≡ ask.Values s → Accepted c ss v f u (deep + 1) (d - 1) l.next × Room o₃ l.to (encode (data_at c v f u (deep + 1) (d - 1) l.next))
         single_asks {s} e =
             let is = single_way s l.next e h in
-            (is.value, after z (after y (after x (room_as (single_bytes c ss v f t deep d at asked count p.scope u k q n m s l.next e is) r))))
+            (is.value, after z (after y (after x (room_as (single_bytes c ss v f t deep d at asked count p.scope u _ _ refl refl s l.next e is) r))))
 
         pub single_done : {s : Pick} {e : Pos} {o₄ : List ℕ} {info : Info} → asked ≡ ask.Values s → e.next ≡ next_at v f (d - 1) l.next → Wrote o₃ l.to (encode (data_at c v f u (deep + 1) (d - 1) l.next)) o₄ e.to
             → e.ty ≡ type_at c v f u (deep + 1) (d - 1) l.next
@@ -265,7 +268,7 @@ module _ (c ss v : List ℕ) (f : Files) (t : List Scope) (deep d at : ℕ) (w :
             let is = single_way s l.next b₁ h in (
               k₁ ∙ is.next,
               (
-                wrote_as (sym (single_bytes c ss v f t deep d at asked count p.scope u k q n m s l.next b₁ is)) (then x (then y (then z y₁))),
+                wrote_as (sym (single_bytes c ss v f t deep d at asked count p.scope u _ _ refl refl s l.next b₁ is)) (then x (then y (then z y₁))),
                 (
                   n₁ ∙ is.type_as,
                   h₁ ∙ ap₂ (λ (z₁ z₂ : Info). block_i (refs_to (tables_in (open_of c f.nc p.scope))) (z₁ ∷ choice_i z₂ (Fixed 0) ∷ [])) i₁ j₁

@@ -1,7 +1,7 @@
 -- The resolved value at a record of a view, as total functions of the bytes, and what the writers of its trees require of their caller.
 -- Assumes nothing.
 use Rattle.std.specs.Prelude.{ℕ, ◌+◌, ◌*◌, ◌≡◌, cond, List, []}
-use Rattle.word.specs.Record.{rec_bytes}
+use Rattle.word.specs.Record.{Record, rec_bytes}
 use Rattle.class.specs.declared.Info.{Info}
 use Rattle.class.specs.declared.Info.TheVariants.{Fixed}
 use Rattle.cell.specs.Types.{digits_of, scale_of, same_type}
@@ -144,3 +144,7 @@ block_kind (ask.Values g) = pick_kind g
 unfoldable pub block_op : Asked → ℕ
 block_op (ask.Rows f) = fold_op f
 block_op (ask.Values g) = 0
+
+-- a block's record, over so many tables
+abbrev pub block_rec : Asked → ℕ → Record
+block_rec asked count = record { kind = block_kind asked; op = block_op asked; a = count; b = 0; c = 0 }

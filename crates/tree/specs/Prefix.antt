@@ -2,7 +2,7 @@
 -- Assumes nothing.
 use Rattle.std.specs.Prelude.{ℕ, zero, suc, ◌+◌, ◌/◌, ◌%◌, ◌<◌, max, ◌≡◌, cond, List, [], ◌∷◌, eqb, leb, length, get_or, drop}
 use Rattle.word.specs.Bytes.{u16_at, within}
-use Rattle.word.specs.declared.Rec.{Rec}
+use Rattle.word.specs.Record.{Record}
 use Rattle.cell.specs.Res.{Res, stuck, done, bind}
 use Rattle.view.specs.Record.{const_of, const_rec}
 use Rattle.view.specs.declared.Fold.TheVariants as fold
@@ -16,14 +16,14 @@ abbrev pub Read : Type 0 → Type 0
 Read A = List ℕ → Res (A × List ℕ)
 
 -- a record of eight bytes
-unfoldable pub front : Read Rec
+unfoldable pub front : Read Record
 front xs =
     cond (leb 8 (length xs))
     (done (record { kind = get_or xs 0 0; op = get_or xs 1 0; a = u16_at xs 2; b = u16_at xs 4; c = u16_at xs 6 }, drop 8 xs))
     stuck
 
 -- so many TABLE records
-unfoldable pub table_in : Rec → Res ℕ
+unfoldable pub table_in : Record → Res ℕ
 table_in r = cond (eqb r.kind 12) (done r.a) stuck
 
 unfoldable pub read_tables : ℕ → Read (List ℕ)
@@ -55,7 +55,7 @@ const_form (Classof name q) = nothing
 const_form (Let name) = nothing
 const_form Bad = nothing
 
-unfoldable pub form_of : Rec → Form
+unfoldable pub form_of : Record → Form
 form_of r =
     cond (within 1 6 r.kind) (const_form (const_of r))
     (cond (eqb r.kind 7) (two (tree_binop r.op r.a))

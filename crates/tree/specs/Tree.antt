@@ -2,7 +2,7 @@
 -- Assumes nothing.
 use Rattle.std.specs.Prelude.{ℕ, ◌+◌, ◌*◌, List, [], ◌∷◌, ◌++◌, length}
 use Rattle.word.specs.Header.{drt, header}
-use Rattle.word.specs.Record.{rec_bytes}
+use Rattle.word.specs.Record.{Record, rec_bytes}
 use Rattle.cell.specs.declared.Type.{«Type» as Ty}
 use Rattle.cell.specs.declared.Type.TheVariants as T
 use Rattle.cell.specs.declared.Value.{Value}
@@ -12,7 +12,6 @@ use Rattle.view.specs.declared.Fold.{Fold}
 use Rattle.view.specs.declared.Fold.TheVariants as fold
 use Rattle.view.specs.declared.Pick.{Pick}
 use Rattle.view.specs.declared.Pick.TheVariants as pick
-use Rattle.word.specs.declared.Rec.{Rec}
 
 pub data Tree : Type 0 where
   tree_const : Ty → Value → Tree
@@ -72,7 +71,7 @@ unfoldable pub size_select : SelectTree → ℕ
 size_select s = 1 + (length s.tabs + (size s.test + size_pairs s.pairs))
 
 -- the record of a constant
-abbrev pub rec_of : Rec → List ℕ
+abbrev pub rec_of : Record → List ℕ
 rec_of r = rec_bytes r.kind r.op r.a r.b r.c
 
 -- the TABLE records of a block

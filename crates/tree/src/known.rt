@@ -29,6 +29,7 @@ pub fn type_at(
 }
 
 // The type of BINOP over operands of types s and t; null where the rule is broken.
+#[tactic(auto, using(crate::proofs::Leaves::types))]
 pub fn binop_type(op: u8, s: cell::Type, t: cell::Type) -> cell::Type
     ensures { result ≡ or_else Null (binop_type op s t) }
 {
@@ -39,6 +40,7 @@ pub fn binop_type(op: u8, s: cell::Type, t: cell::Type) -> cell::Type
 }
 
 // The type of what a name finds; null where it finds nothing, or more than one.
+#[tactic(auto, unfolding(crate::specs::Claims::found_type))]
 pub fn found_type(h: scope::Found) -> cell::Type
     ensures { result ≡ found_type h }
 {
@@ -50,6 +52,7 @@ pub fn found_type(h: scope::Found) -> cell::Type
 }
 
 // What is known of the class of what a name finds; 0 where it finds nothing, or more than one.
+#[tactic(auto, unfolding(crate::specs::Claims::found_info))]
 pub fn found_info(h: scope::Found) -> class::Info
     ensures { result ≡ found_info h }
 {
@@ -61,6 +64,7 @@ pub fn found_info(h: scope::Found) -> class::Info
 }
 
 // What is known of the class of the row where a name finds a column; 0 where it finds none, or more than one.
+#[tactic(auto, unfolding(crate::specs::Claims::row_info))]
 pub fn row_info(h: scope::Found) -> class::Info
     ensures { result ≡ row_info h }
 {

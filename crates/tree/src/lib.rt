@@ -2,6 +2,7 @@
 // The definitions are in specs/: Tree has trees and their records, Trans the data tree D and the class C, Select the whole tree, Claims the value at a record.
 #![tactic(auto)]
 
+pub mod kinds;
 mod known;
 mod noted;
 mod records;
@@ -15,6 +16,7 @@ ghost use Rattle.tree.specs.Claims.{type_at, info_at, data_at, limb_at, next_at,
 
 pub use noted::write_noted;
 pub use records::table_recs;
+use word::Record;
 
 /// Where a writer stands after a value: the next record of the view, and the place in the buffer; and the value's type, and what is known of its class.
 #[derive(Clone, Copy)]
@@ -53,7 +55,7 @@ pub fn write_d(
     match view::sound_at(view, at) {
         view::Node::Const(ty, _) => Pos {
             next,
-            to: records::copy_const(view, at, out, to),
+            to: word::put_record(out, to, records::constant(view, at)),
             ty,
             info: class::Info::Fixed(f.k),
         },
@@ -61,20 +63,29 @@ pub fn write_d(
             let x = write_d(cat, starts, view, f, next, down, t, deep, out, to + 8, pad);
             let y = write_d(cat, starts, view, f, x.next, down, t, deep, out, x.to, pad);
             let ty = known::binop_type(op, x.ty, y.ty);
-            word::put_rec(out, to, 7, op, u16::from(cell::digits_of(ty)), 0, 0);
+            let digits = cell::digits_of(ty) as u16;
+            word::put_record(
+                out,
+                to,
+                Record {
+                    op,
+                    a: digits,
+                    ..kinds::BINOP
+                },
+            );
             Pos {
                 ty,
-                info: class::joined(x.info, y.info),
+                info: x.info.join(y.info),
                 ..y
             }
         }
         view::Node::Not => {
-            let a = word::put_rec(out, to, 8, 0, 0, 0, 0);
+            let a = word::put_record(out, to, kinds::NOT);
             write_d(cat, starts, view, f, next, down, t, deep, out, a, pad)
         }
         view::Node::If => {
             let ty = known::type_at(cat, starts, view, f, at, depth, t, deep, pad);
-            let a = word::put_rec(out, to, 9, 0, 0, 0, 0);
+            let a = word::put_record(out, to, kinds::IF);
             let x = write_d(cat, starts, view, f, next, down, t, deep, out, a, pad);
             let y = write_limb(
                 cat, starts, view, f, x.next, down, t, deep, ty, out, x.to, pad,
@@ -84,7 +95,7 @@ pub fn write_d(
             );
             Pos {
                 ty,
-                info: class::joined(x.info, class::chosen(y.info, z.info)),
+                info: x.info.join(y.info.choose(z.info)),
                 ..z
             }
         }
@@ -97,7 +108,7 @@ pub fn write_d(
             depth,
             t,
             deep,
-            usize::from(a),
+            a,
             resolve::Asked::Rows(q),
             out,
             to,
@@ -112,7 +123,7 @@ pub fn write_d(
             depth,
             t,
             deep,
-            usize::from(a),
+            a,
             resolve::Asked::Values(g),
             out,
             to,
@@ -122,7 +133,7 @@ pub fn write_d(
             let h = scope::find(t, cat, f.nc, deep, name, q);
             Pos {
                 next,
-                to: records::put_column(h, out, to),
+                to: word::put_record(out, to, records::column(h)),
                 ty: known::found_type(h),
                 info: known::found_info(h),
             }
@@ -131,13 +142,13 @@ pub fn write_d(
             let h = scope::find(t, cat, f.nc, deep, name, q);
             Pos {
                 next,
-                to: records::put_cell_class(h, out, to),
+                to: word::put_record(out, to, records::cell_class(h)),
                 ty: cell::Type::Class,
                 info: known::row_info(h),
             }
         }
         view::Node::Let(name) => {
-            let a = word::put_rec(out, to, 23, 0, 0, 0, 0);
+            let a = word::put_record(out, to, kinds::BIND);
             let x = write_d(cat, starts, view, f, next, down, t, deep, out, a, pad);
             let s = scope::local_scope(name, x.ty, x.info);
             let u = scope::pushed(t, deep, s);
@@ -204,7 +215,7 @@ fn write_block(
     depth: usize,
     t: [scope::Scope; 16],
     deep: usize,
-    count: usize,
+    count: u16,
     asked: resolve::Asked,
     out: &mut [u8],
     to: usize,
@@ -219,19 +230,18 @@ fn write_block(
 {
     let next = at + 1;
     let down = depth - 1;
-    let o = scope::open_block(cat, f.nc, starts, f.tables, view, next, count);
+    let tables = count as usize;
+    let o = scope::open_block(cat, f.nc, starts, f.tables, view, next, tables);
     let s = o.scope;
     let u = scope::pushed(t, deep, s);
-    let kind = records::block_kind(asked);
-    let op = records::block_op(asked);
-    let a = word::put_rec(out, to, kind, op, count as u16, 0, 0);
-    let b = records::table_recs(cat, f.nc, starts, f.tables, view, next, count, out, a);
+    let a = word::put_record(out, to, records::block(asked, count));
+    let b = records::table_recs(cat, f.nc, starts, f.tables, view, next, tables, out, a);
     let x = write_d(
         cat,
         starts,
         view,
         f,
-        next + count,
+        next + tables,
         down,
         u,
         deep + 1,

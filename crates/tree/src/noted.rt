@@ -1,9 +1,24 @@
 // The data of a value written from its notes, in one loop: each record of the view gives one of the tree, with CONV before it where its note is marked.
 // A writer returns the place after what it wrote. The definitions are in specs/Noted.
-ghost use Rattle.std.specs.Prelude.{◌+◌, ◌*◌, ◌/◌, ◌≤◌, length};
+ghost use Rattle.std.specs.Prelude.{◌≡◌, ◌+◌, ◌*◌, ◌/◌, ◌≤◌, length};
 ghost use Rattle.word.specs.Buffer.{Wrote, Room};
 ghost use Rattle.view.specs.Record.{node_at};
+ghost use Rattle.tree.specs.Tree.{rec_of};
 ghost use Rattle.tree.specs.Noted.{mark_bytes, name_bytes, plain_bytes, record_bytes, noted_bytes, notes_in, Stands, Noting};
+
+use crate::kinds;
+use word::Record;
+
+// The kinds of a view's records that a tree has in other words.
+const BINOP: u8 = 7;
+
+const TABLE: u8 = 12;
+
+const COL: u8 = 14;
+
+const CLASSOF: u8 = 15;
+
+const LET: u8 = 16;
 
 // CONV before a record, where the top byte m of its note isn't 0.
 fn put_mark(m: u8, out: &mut [u8], to: usize) -> usize
@@ -13,64 +28,73 @@ fn put_mark(m: u8, out: &mut [u8], to: usize) -> usize
     if m == 0 {
         return to;
     }
-    word::put_rec(out, to, 22, m, 0, 0, 0)
+    word::put_record(
+        out,
+        to,
+        Record {
+            op: m,
+            ..kinds::CONV
+        },
+    )
 }
 
-// COL by its note w: DATA or LOCAL.
-fn put_name(w: u64, out: &mut [u8], to: usize) -> usize
-    requires { Room out.old to (name_bytes w) }
-    ensures { Wrote out.old to (name_bytes w) out.new result }
+// COL by its note: DATA or LOCAL.
+#[tactic(auto, unfolding(crate::specs::Noted::name_bytes))]
+fn name(note: u64) -> Record
+    ensures { rec_of result ≡ name_bytes note }
 {
-    let a = (w % 65536) as u16;
-    let b = (w / 65536 % 65536) as u16;
-    let c = (w / 4294967296 % 65536) as u16;
-    if w / 281474976710656 % 256 == 0 {
-        word::put_rec(out, to, 17, 0, a, b, c)
-    } else {
-        word::put_rec(out, to, 20, 0, a, 0, 0)
+    let a = (note % 65536) as u16;
+    if note / 281474976710656 % 256 != 0 {
+        return Record { a, ..kinds::LOCAL };
+    }
+    Record {
+        a,
+        b: (note / 65536 % 65536) as u16,
+        c: (note / 4294967296 % 65536) as u16,
+        ..kinds::DATA
     }
 }
 
-// The record that record i of a view gives with its note w: most are as they were.
-fn put_plain(view: &[u8], i: usize, w: u64, out: &mut [u8], to: usize) -> usize
+// The record that record i of a view gives with its note: most are as they were.
+fn plain(view: &[u8], i: usize, note: u64) -> Record
     requires i_in_bounds { 8 + 8 * i + 8 ≤ length view.now }
     requires stands { Stands (node_at view.now i) }
-    requires room { Room out.old to (plain_bytes (node_at view.now i) w) }
-    ensures { Wrote out.old to (plain_bytes (node_at view.now i) w) out.new result }
+    ensures { rec_of result ≡ plain_bytes (node_at view.now i) note }
 {
-    let a = (w % 65536) as u16;
-    let b = (w / 65536 % 65536) as u16;
-    let c = (w / 4294967296 % 65536) as u16;
-    let kind = word::kind_at(view, i);
-    match kind {
-        7 => {
-            let op = word::op_at(view, i);
-            word::put_rec(out, to, 7, op, a, 0, 0)
-        }
-        12 => word::put_rec(out, to, 12, 0, a, 0, 0),
-        14 => put_name(w, out, to),
-        15 => word::put_rec(out, to, 18, 0, a, b, c),
-        16 => word::put_rec(out, to, 23, 0, 0, 0, 0),
-        _ => {
-            let r = word::rec_at(view, i);
-            word::put_rec(out, to, r.kind, r.op, r.a, r.b, r.c)
-        }
+    let given = word::record_at(view, i);
+    let a = (note % 65536) as u16;
+    match given.kind {
+        BINOP => Record {
+            op: given.op,
+            a,
+            ..kinds::BINOP
+        },
+        TABLE => Record { a, ..kinds::TABLE },
+        COL => name(note),
+        CLASSOF => Record {
+            a,
+            b: (note / 65536 % 65536) as u16,
+            c: (note / 4294967296 % 65536) as u16,
+            ..kinds::CELL_CLASS
+        },
+        LET => kinds::BIND,
+        _ => given,
     }
 }
 
-// The same, with CONV before it where the note is marked.
-fn put_record(view: &[u8], i: usize, w: u64, out: &mut [u8], to: usize) -> usize
+// The same, written, with CONV before it where the note is marked.
+fn put_noted(view: &[u8], i: usize, note: u64, out: &mut [u8], to: usize) -> usize
     requires i_in_bounds { 8 + 8 * i + 8 ≤ length view.now }
     requires stands { Stands (node_at view.now i) }
-    requires room { Room out.old to (record_bytes (node_at view.now i) w) }
-    ensures { Wrote out.old to (record_bytes (node_at view.now i) w) out.new result }
+    requires room { Room out.old to (record_bytes (node_at view.now i) note) }
+    ensures { Wrote out.old to (record_bytes (node_at view.now i) note) out.new result }
 {
-    let m = (w / 72057594037927936) as u8;
-    let a = put_mark(m, out, to);
-    put_plain(view, i, w, out, a)
+    let mark = (note / 72057594037927936) as u8;
+    let a = put_mark(mark, out, to);
+    word::put_record(out, a, plain(view, i, note))
 }
 
-// The records of a value from record `at` on, before `end`, each with its note.
+/// The records of a value from record `at` on, before `end`, each with its note. Returns the place after what it wrote.
 pub fn write_noted(
     view: &[u8],
     notes: &[u64],
@@ -85,7 +109,7 @@ pub fn write_noted(
 {
     let mut u = to;
     for i in at..end {
-        u = put_record(view, i, notes[i], out, u);
+        u = put_noted(view, i, notes[i], out, u);
     }
     u
 }

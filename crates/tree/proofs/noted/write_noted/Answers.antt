@@ -3,8 +3,8 @@
 use Rattle.tree.proofs.Noting.{rests}
 use Rattle.tree.proofs.noted.write_noted.Goals as goal
 
-pub put_record-u-requires : goal.put_record-u-requires
-put_record-u-requires c = record { i_in_bounds = search rests; stands = search rests; room = search rests }
+pub put_noted-u-requires : goal.put_noted-u-requires
+put_noted-u-requires c = record { i_in_bounds = search rests; stands = search rests; room = search rests }
 
 pub loop-i-preserved : goal.loop-i-preserved
 loop-i-preserved c = search rests

@@ -3,11 +3,11 @@
 use Rattle.tree.proofs.Leaves.{left_room, left_again, left_done}
 use Rattle.tree.proofs.records.table_recs.Goals as goal
 
-pub put_rec-u-requires : goal.put_rec-u-requires
-put_rec-u-requires c = left_room _ _ _ _ _ _ _ c.requires.tabled c.loop-j.invariant _ c.loop-j-test.true c.table_number-k.ensures
+pub put_record-u-requires : goal.put_record-u-requires
+put_record-u-requires c = left_room _ _ _ _ _ _ _ c.requires.tabled c.loop-j.invariant _ c.loop-j-test.true c.table_number-k.ensures
 
 pub loop-j-preserved : goal.loop-j-preserved
-loop-j-preserved c = left_again _ _ _ _ _ _ _ c.requires.tabled c.loop-j.invariant _ c.loop-j-test.true c.table_number-k.ensures c.put_rec-u.ensures
+loop-j-preserved c = left_again _ _ _ _ _ _ _ c.requires.tabled c.loop-j.invariant _ c.loop-j-test.true c.table_number-k.ensures c.put_record-u.ensures
 
 pub returns : goal.returns
 returns c = left_done _ _ _ _ _ _ _ c.requires.tabled c.loop-j.invariant c.loop-j-test.false
