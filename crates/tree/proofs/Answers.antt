@@ -17,6 +17,7 @@ use Rattle.resolve.specs.declared.Known.{Known}
 use Rattle.resolve.specs.declared.Typed.{Typed}
 use Rattle.resolve.specs.declared.Typed.TheVariants as typed
 use Rattle.resolve.proofs.Inversion.{typed_good}
+use Rattle.tree.specs.Levels.{Told}
 use Rattle.tree.specs.Claims.{expr_at, type_at, info_at, next_at, Accepted}
 use Rattle.tree.proofs.Resolved.{out_is}
 
@@ -57,3 +58,7 @@ module _ (c ss v : List ℕ) (f : Files) (t : List Scope) (deep d at : ℕ) (w :
           values_are = ap (λ (h : Known). h.values) e;
           classes_are = ap (λ (h : Known). h.classes) e;
         }
+
+    -- as the code holds it
+    pub told_of : {x : Known} → l ≡ typed.Is x → Told c v f t deep d at (record { ty = x.ty; info = x.info; next = x.next })
+    told_of b = let k = known_is b in record { ty_is = k.type_is; info_is = k.info_is; next_is = k.next_is }

@@ -1,17 +1,16 @@
 -- The leaves of the writer: one law for each place of their code. Its premises are what the code has found there.
 -- Assumes nothing.
 use Prim.Native.Nat.{ℕ, zero, suc, ◌+◌, ◌*◌, ◌<◌, ◌≤◌}
-use mathlib.Core.Path.{◌≡◌, refl, sym, ap, ◌∙◌, subst}
+use mathlib.Core.Path.{◌≡◌, refl, sym, ap, ap₂, ◌∙◌, subst}
 use mathlib.Core.Bool.{Bool, true, false}
 use mathlib.Core.List.{List, [], ◌∷◌, ◌++◌}
 use native.Mathlib.Omega.{arith}
 use native.Mathlib.Numerals.{add-one}
 use borrow.Author.Rules.{rules}
 use lib.ListN.{length, drop, drop_of_length-le}
-use Rattle.word.specs.Buffer.{put, Wrote, Room}
 use Rattle.word.specs.Record.{Record, rec_at, rec_bytes}
-use Rattle.word.proofs.Laws.{length_rec, room_rec}
-use Rattle.word.proofs.Writing.{front, after, Todo, todo_all, todo_same, todo_less, todo_none}
+use Rattle.word.specs.Writer.{Writes}
+use Rattle.word.specs.declared.writer.Writer.{Writer}
 use Rattle.class.specs.declared.Info.{Info}
 use Rattle.class.specs.declared.Info.TheVariants.{Fixed}
 use Rattle.cell.specs.Res.{Res, stuck, done, or_else, nth}
@@ -44,18 +43,8 @@ use Rattle.resolve.specs.declared.Typed.TheVariants as typed
 use Rattle.tree.specs.Tree.{rec_of, Tree, tree_const, tree_binop, tree_not, tree_if, tree_exists, tree_value, tree_data, tree_cell_class, tree_row_class, tree_local, tree_local_class, tree_conv, tree_bind, tree_bind_class, tree_lub, tree_dom, tree_agg, size, encode, table_recs, fold_kind, fold_op, pick_kind}
 use Rattle.tree.specs.Trans.{nums}
 use Rattle.tree.specs.Claims.{type_at, Accepted, refs_at, IsConst, const_tree, col_tree, class_tree, found_type, found_info, row_info, conv_bytes, block_kind, block_op}
-use Rattle.tree.proofs.Sizes.{length_encode}
-use Rattle.tree.proofs.Writing.{room_as}
-use Rattle.tree.proofs.Answers.{not_refused, known_is}
-
--- ---- what is known of a value
-
-module _ (c ss v : List ℕ) (f : Files) (t : List Scope) (deep d at : ℕ) (w : Accepted c ss v f t deep d at) (l : Typed) (a : l ≡ answer_at c v f t deep d at) where
-  pub type_done : {x : Known} → l ≡ typed.Is x → x.ty ≡ type_at c v f t deep d at
-  type_done b = (known_is c ss v f t deep d at w l a b).type_is
-
-  pub type_refused : {i p : ℕ} → l ≡ typed.Refused i p → T.Null ≡ type_at c v f t deep d at
-  type_refused b = absurd (not_refused c ss v f t deep d at w l a b)
+use Rattle.tree.specs.Levels.{Fits}
+use Rattle.tree.proofs.Writers.{writes_none, writes_as, fits_as, fits_front, fits_record, Rests, rests_next, rests_as, rests_done}
 
 -- ---- types, by what is found
 
@@ -78,47 +67,22 @@ module _ (j : Judged) (x : Res Ty) (e : j ≡ judged_of x) where
 
 pub ruleset types = (rule_kept, rule_broken, rules)
 
--- ---- room for a tree is room for a record
-
-size_some : (t : Tree) → 1 ≤ size t
-unfolding size
-size_some (tree_const t v) = omega arith
-size_some (tree_binop op p x y) = omega arith
-size_some (tree_not x) = omega arith
-size_some (tree_if c x y) = omega arith
-size_some (tree_exists f ns w) = omega arith
-size_some (tree_value g ns w v) = omega arith
-size_some (tree_data a b c) = omega arith
-size_some (tree_cell_class a b c) = omega arith
-size_some (tree_row_class a b) = omega arith
-size_some (tree_local a) = omega arith
-size_some (tree_local_class a) = omega arith
-size_some (tree_conv p s x) = omega arith
-size_some (tree_bind v b) = omega arith
-size_some (tree_bind_class c v b) = omega arith
-size_some (tree_lub x y) = omega arith
-size_some (tree_dom x y) = omega arith
-size_some (tree_agg ns x) = omega arith
-
-pub room_some : {o : List ℕ} {at : ℕ} (t : Tree) → Room o at (encode t) → at + 8 ≤ length o
-room_some t r = omega (arith, r.within, length_encode t, size_some t)
-
 -- ---- CONV
 
-module _ {o : List ℕ} {at : ℕ} (s t : Ty) {b : Bool} (e : b ≡ same_type s t) where
-  pub conv_same : b ≡ true → Wrote o at (conv_bytes s t) o at
-  unfolding conv_bytes put
-  conv_same f = rw (← e, f) (record { now_is = refl; next_is = omega arith })
+conv_is : (s t : Ty) {b : Bool} → b ≡ same_type s t → b ≡ false → conv_bytes s t ≡ rec_bytes 22 (16 * digits_of t + scale_of t) 0 0 0
+unfolding conv_bytes
+conv_is s t e f = rw (← e, f)
 
-  pub conv_room : b ≡ false → Room o at (conv_bytes s t) → at + 8 ≤ length o
+module _ {w : Writer} (s t : Ty) {b : Bool} (e : b ≡ same_type s t) where
+  pub conv_same : b ≡ true → Writes (conv_bytes s t) w w
   unfolding conv_bytes
-  conv_room f r =
-      let g : conv_bytes s t ≡ rec_bytes 22 (16 * digits_of t + scale_of t) 0 0 0 = rw (← e, f) in
-      omega (arith, (subst (Room o at) g r).within, length_rec 22 (16 * digits_of t + scale_of t) 0 0 0)
+  conv_same f = rw (← e, f) writes_none
 
-  pub conv_other : {o₁ : List ℕ} {r p q : ℕ} → b ≡ false → p ≡ digits_of t → q ≡ scale_of t → Wrote o at (rec_bytes 22 (16 * p + q) 0 0 0) o₁ r → Wrote o at (conv_bytes s t) o₁ r
-  unfolding conv_bytes
-  conv_other f i j w = rw (← e, f, ← i, ← j) w
+  pub conv_room : b ≡ false → Fits (conv_bytes s t) w → w.at + 8 ≤ length w.out.now
+  conv_room f r = fits_record 22 (16 * digits_of t + scale_of t) 0 0 0 (fits_as (conv_is s t e f) r)
+
+  pub conv_other : {w₁ : Writer} {p q : ℕ} → b ≡ false → p ≡ digits_of t → q ≡ scale_of t → Writes (rec_bytes 22 (16 * p + q) 0 0 0) w w₁ → Writes (conv_bytes s t) w w₁
+  conv_other f i j x = writes_as (ap₂ (λ (m n : ℕ). rec_bytes 22 (16 * m + n) 0 0 0) i j ∙ sym (conv_is s t e f)) x
 
 pub ruleset converted = (conv_same, conv_room, conv_other, rules)
 
@@ -147,15 +111,6 @@ part [] j h = absurd (omega arith)
 part (t ∷ ts) zero h = (t, refl, refl)
 part (t ∷ ts) (suc j) h = part ts j (omega arith)
 
--- after j tables: what is left of the records, from u on, comes to all of them, from `to` on
-pub record Left (c : List ℕ) (n : ℕ) (v : List ℕ) (at count : ℕ) (o₀ : List ℕ) (to : ℕ) (o : List ℕ) (u j : ℕ) : Type 0 where
-  pub few : j ≤ count
-  pub room : Room o u (table_recs (nums (drop j (refs_at c n v at count))))
-  pub todo : Todo o u (table_recs (nums (drop j (refs_at c n v at count)))) o₀ to (table_recs (nums (refs_at c n v at count)))
-
-pub left_begin : (c : List ℕ) (n : ℕ) (v : List ℕ) (at count : ℕ) (o : List ℕ) (to : ℕ) → Room o to (table_recs (nums (refs_at c n v at count))) → Left c n v at count o to o to 0
-left_begin c n v at count o to r = record { few = omega arith; room = r; todo = todo_all o to (table_recs (nums (refs_at c n v at count))) }
-
 module _ (c : List ℕ) (n : ℕ) (ss : List ℕ) (tables : ℕ) (v : List ℕ) (at count : ℕ) where
   module _ (w : Tabled c n ss tables v at count) where
     refs_long : length (refs_at c n v at count) ≡ count
@@ -170,21 +125,16 @@ module _ (c : List ℕ) (n : ℕ) (ss : List ℕ) (tables : ℕ) (v : List ℕ) 
         let q = number_again c n tables ss v at count (refs_at c n v at count) p.0 j (at + j) k w.found h p.1 refl e in
         rw (add-one j, q) (ap (λ (ts : List TabRef). table_recs (nums ts)) p.2)
 
-    module _ {o₀ : List ℕ} {to : ℕ} {o : List ℕ} {u j : ℕ} (l : Left c n v at count o₀ to o u j) where
-      pub left_room : (k : ℕ) → j < count → (table_named (name_of (node_at v (at + j))) (tables_from c n n 0) ≡ ref_by c n ss tables k) × (k ≤ tables) → u + 8 ≤ length o
-      left_room k h e =
-          room_rec 12 0 k 0 0 (front (table_recs (nums (drop (j + 1) (refs_at c n v at count)))) (room_as (next_rec j k h e) l.room))
+    module _ {x₀ x : Writer} {j : ℕ} (l : Rests (table_recs (nums (drop j (refs_at c n v at count)))) x (table_recs (nums (refs_at c n v at count))) x₀) where
+      pub left_room : (k : ℕ) → j < count → (table_named (name_of (node_at v (at + j))) (tables_from c n n 0) ≡ ref_by c n ss tables k) × (k ≤ tables) → x.at + 8 ≤ length x.out.now
+      left_room k h e = fits_record 12 0 k 0 0 (fits_front (table_recs (nums (drop (j + 1) (refs_at c n v at count)))) (fits_as (next_rec j k h e) l.room))
 
-      pub left_again : (k : ℕ) {o₁ : List ℕ} {u₁ : ℕ} → j < count → (table_named (name_of (node_at v (at + j))) (tables_from c n n 0) ≡ ref_by c n ss tables k) × (k ≤ tables)
-          → Wrote o u (rec_bytes 12 0 k 0 0) o₁ u₁ → Left c n v at count o₀ to o₁ u₁ (j + 1)
-      left_again k h e x = record {
-        few = omega arith;
-        room = after x (room_as (next_rec j k h e) l.room);
-        todo = todo_less x (todo_same (next_rec j k h e) l.todo);
-      }
+      pub left_again : (k : ℕ) {x₁ : Writer} → j < count → (table_named (name_of (node_at v (at + j))) (tables_from c n n 0) ≡ ref_by c n ss tables k) × (k ≤ tables)
+          → Writes (rec_bytes 12 0 k 0 0) x x₁ → Rests (table_recs (nums (drop (j + 1) (refs_at c n v at count)))) x₁ (table_recs (nums (refs_at c n v at count))) x₀
+      left_again k h e y = rests_next y (rests_as (next_rec j k h e) l)
 
-      pub left_done : count ≤ j → Wrote o₀ to (table_recs (nums (refs_at c n v at count))) o u
+      pub left_done : count ≤ j → Writes (table_recs (nums (refs_at c n v at count))) x₀ x
       unfolding table_recs
       left_done h =
           let z : length (refs_at c n v at count) ≤ j = omega (arith, refs_long) in
-          todo_none (todo_same (ap (λ (ts : List TabRef). table_recs (nums ts)) (drop_of_length-le (refs_at c n v at count) z)) l.todo)
+          rests_done (rests_as (ap (λ (ts : List TabRef). table_recs (nums ts)) (drop_of_length-le (refs_at c n v at count) z)) l)

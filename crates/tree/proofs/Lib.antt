@@ -8,6 +8,7 @@ pub mod Accepted
 pub mod Parts
 pub mod Answers
 pub mod Writing
+pub mod Writers
 pub mod Leaves
 pub mod Turns
 pub mod Reach

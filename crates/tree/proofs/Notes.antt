@@ -8,8 +8,10 @@ use native.Mathlib.Omega.{arith}
 use native.Mathlib.Decide.{dec_lt}
 use lib.ListN.{length, set, take, drop}
 use lib.Seq.{length-take-le, drop_at, take-append_seam, take-set-le, drop-set-lt, drop-set-add}
-use Rattle.word.specs.Buffer.{put, Wrote, Room}
-use Rattle.word.proofs.Writing.{put_eq, wrote_as}
+use Rattle.word.specs.Buffer.{put}
+use Rattle.word.specs.Writer.{Writes}
+use Rattle.word.specs.declared.writer.Writer.{Writer}
+use Rattle.word.proofs.Writing.{put_eq}
 use Rattle.cell.specs.Res.{done}
 use Rattle.cell.specs.Types.{digits_of, scale_of, limb_type, same_type}
 use Rattle.cell.specs.declared.Type.{«Type» as Ty}
@@ -42,7 +44,8 @@ use Rattle.tree.proofs.Gives.{Gives, gives_tables, Told, told_as, told_const, to
 use Rattle.tree.proofs.Narrow.{narrow_type}
 use Rattle.tree.proofs.Reach.{reach}
 use Rattle.tree.proofs.Resolved.{out_is, type_is}
-use Rattle.tree.proofs.Writing.{room_as}
+use Rattle.tree.specs.Levels.{Fits}
+use Rattle.tree.proofs.Writers.{fits_as, writes_as}
 
 -- ---- CONV's number is not 0: a type of no digits at scale 0 is never another one than a limb's
 
@@ -225,11 +228,11 @@ module _ (c ss v : List ℕ) (f : Files) (t : List Scope) (deep d at : ℕ) (w :
     run_data : noted_bytes v (notes_in ws at (next_at v f d at)) at ≡ encode (data_at c v f t deep d at)
     run_data = ap (λ (xs : List ℕ). noted_bytes v xs at) e ∙ noted_data
 
-    pub noted_asks : {o : List ℕ} {to : ℕ} → Room o to (encode (data_at c v f t deep d at)) → Room o to (noted_bytes v (notes_in ws at (next_at v f d at)) at)
-    noted_asks r = room_as (sym run_data) r
+    pub noted_asks : {x : Writer} → Fits (encode (data_at c v f t deep d at)) x → Fits (noted_bytes v (notes_in ws at (next_at v f d at)) at) x
+    noted_asks r = fits_as (sym run_data) r
 
-    pub noted_done : {o : List ℕ} {to : ℕ} {o₁ : List ℕ} {r : ℕ} → Wrote o to (noted_bytes v (notes_in ws at (next_at v f d at)) at) o₁ r → Wrote o to (encode (data_at c v f t deep d at)) o₁ r
-    noted_done x = wrote_as run_data x
+    pub noted_done : {x y : Writer} → Writes (noted_bytes v (notes_in ws at (next_at v f d at)) at) x y → Writes (encode (data_at c v f t deep d at)) x y
+    noted_done h = writes_as run_data h
 
 -- ---- the notes that a walk left: those of a value are its own, and stay so when later records are noted
 

@@ -12,10 +12,11 @@ use lib.Dec.{eqb, leb}
 use lib.ListN.{length, get_or}
 use lib.Seq.{drop-cons}
 use Rattle.word.specs.Bytes.{within}
-use Rattle.word.specs.Buffer.{put, Wrote, Room}
+use Rattle.word.specs.Writer.{Writes}
+use Rattle.word.specs.declared.writer.Writer.{Writer}
 use Rattle.word.specs.Record.{Record, kind_at, op_at, rec_at, rec_bytes}
 use Rattle.word.proofs.Laws.{length_rec}
-use Rattle.word.proofs.Writing.{then, wrote_as, front, after, Todo, todo_all, todo_same, todo_less, todo_none}
+use Rattle.word.proofs.Writing.{writes_then}
 use Rattle.view.specs.Record.{when, bare, op_only, a_only, counts, node_of, node_at, slot_of}
 use Rattle.view.specs.declared.Fold.{Fold}
 use Rattle.view.specs.declared.Pick.{Pick}
@@ -27,7 +28,8 @@ use Rattle.view.proofs.Nodes.{node_binop, node_table, node_col, node_classof, no
 use Rattle.view.proofs.Says.{Says, says_binop, says_not, says_if, says_exists, says_single, says_table, says_col, says_classof, says_let, says_count, says_greatest, says_least, says_node}
 use Rattle.tree.specs.Tree.{rec_of, encode, fold_kind, fold_op, pick_kind}
 use Rattle.tree.specs.Noted.{mark_bytes, name_bytes, plain_bytes, record_bytes, noted_bytes, notes_in, Stands, Noting}
-use Rattle.tree.proofs.Writing.{room_as}
+use Rattle.tree.specs.Levels.{Fits}
+use Rattle.tree.proofs.Writers.{writes_none, writes_as, fits_as, fits_front, fits_after, fits_record, Rests, rests_next, rests_as, rests_done}
 
 -- ---- CONV
 
@@ -35,16 +37,16 @@ mark_bytes_lem : (m : ℕ) → (m ≡ 0 → ⊥) → mark_bytes m ≡ rec_bytes 
 unfolding mark_bytes
 mark_bytes_lem m e = rw (ne_eqb m 0 e)
 
-module _ {o : List ℕ} {to : ℕ} (m : ℕ) where
-  pub mark_none : m ≡ 0 → Wrote o to (mark_bytes m) o to
-  unfolding mark_bytes put
-  mark_none e = rw e (record { now_is = refl; next_is = omega arith })
+module _ {w : Writer} (m : ℕ) where
+  pub mark_none : m ≡ 0 → Writes (mark_bytes m) w w
+  unfolding mark_bytes
+  mark_none e = rw e writes_none
 
-  pub mark_room : (m ≡ 0 → ⊥) → Room o to (mark_bytes m) → to + 8 ≤ length o
-  mark_room e r = omega (arith, (room_as (mark_bytes_lem m e) r).within, length_rec 22 m 0 0 0)
+  pub mark_room : (m ≡ 0 → ⊥) → Fits (mark_bytes m) w → w.at + 8 ≤ length w.out.now
+  mark_room e r = fits_record 22 m 0 0 0 (fits_as (mark_bytes_lem m e) r)
 
-  pub mark_some : {o₁ : List ℕ} {r : ℕ} → (m ≡ 0 → ⊥) → Wrote o to (rec_bytes 22 m 0 0 0) o₁ r → Wrote o to (mark_bytes m) o₁ r
-  mark_some e w = rw (mark_bytes_lem m e) w
+  pub mark_some : {w₁ : Writer} → (m ≡ 0 → ⊥) → Writes (rec_bytes 22 m 0 0 0) w w₁ → Writes (mark_bytes m) w w₁
+  mark_some e x = writes_as (sym (mark_bytes_lem m e)) x
 
 pub ruleset marks = (mark_none, mark_room, mark_some, rules)
 
@@ -215,24 +217,22 @@ module _ (v : List ℕ) (i w : ℕ) (s : Stands (node_at v i)) (q : Record) (e :
 
 -- ---- a record with its mark
 
-module _ (nd : Node) (w : ℕ) {o : List ℕ} {to : ℕ} where
-  pub mark_asks : Room o to (record_bytes nd w) → Room o to (mark_bytes (w / 72057594037927936))
+module _ (nd : Node) (note : ℕ) {w : Writer} where
+  pub mark_asks : Fits (record_bytes nd note) w → Fits (mark_bytes (note / 72057594037927936)) w
   unfolding record_bytes
-  mark_asks r = front _ r
+  mark_asks r = fits_front _ r
 
-  module _ {o₁ : List ℕ} {a : ℕ} (x : Wrote o to (mark_bytes (w / 72057594037927936)) o₁ a) where
-    plain_asks : Room o to (record_bytes nd w) → Room o₁ a (plain_bytes nd w)
+  module _ {w₁ : Writer} (x : Writes (mark_bytes (note / 72057594037927936)) w w₁) where
+    plain_asks : Fits (record_bytes nd note) w → Fits (plain_bytes nd note) w₁
     unfolding record_bytes
-    plain_asks r = after x r
+    plain_asks r = fits_after x r
 
-    pub record_room : Stands nd → Room o to (record_bytes nd w) → a + 8 ≤ length o₁
-    record_room s r = omega (arith, (plain_asks r).within, length_plain nd w s)
+    pub record_room : Stands nd → Fits (record_bytes nd note) w → w₁.at + 8 ≤ length w₁.out.now
+    record_room s r = omega (arith, (plain_asks r).within, length_plain nd note s)
 
-    pub record_done : (r : Record) {o₂ : List ℕ} {b : ℕ} → rec_of r ≡ plain_bytes nd w → Wrote o₁ a (rec_of r) o₂ b → Wrote o to (record_bytes nd w) o₂ b
+    pub record_done : (r : Record) {w₂ : Writer} → rec_of r ≡ plain_bytes nd note → Writes (rec_of r) w₁ w₂ → Writes (record_bytes nd note) w w₂
     unfolding record_bytes
-    record_done r e y = then x (wrote_as e y)
-
-pub ruleset records = (mark_asks, record_room, record_done, rules)
+    record_done r e y = writes_then x (writes_as e y)
 
 -- ---- the loop: what is left of the bytes, from u on, comes to all of them, from `to` on
 
@@ -244,36 +244,17 @@ notes_none : (ws : List ℕ) (i end : ℕ) → end ≤ i → notes_in ws i end �
 unfolding notes_in
 notes_none ws i end h = let e : end - i ≡ 0 = omega arith in rw e
 
-pub record Rest (v ws : List ℕ) (at end : ℕ) (o₀ : List ℕ) (to : ℕ) (o : List ℕ) (u i : ℕ) : Type 0 where
-  pub begun : at ≤ i
-  pub room : Room o u (noted_bytes v (notes_in ws i end) i)
-  pub todo : Todo o u (noted_bytes v (notes_in ws i end) i) o₀ to (noted_bytes v (notes_in ws at end) at)
-
-pub rest_begin : (v ws : List ℕ) (at end : ℕ) (o : List ℕ) (to : ℕ) → Room o to (noted_bytes v (notes_in ws at end) at) → Rest v ws at end o to o to at
-rest_begin v ws at end o to r = record { begun = omega arith; room = r; todo = todo_all o to (noted_bytes v (notes_in ws at end) at) }
-
-module _ (v ws : List ℕ) (at end : ℕ) (n : Noting v ws at end) {o₀ : List ℕ} {to : ℕ} {o : List ℕ} {u i : ℕ} (l : Rest v ws at end o₀ to o u i) where
-  pub rest_done : end ≤ i → Wrote o₀ to (noted_bytes v (notes_in ws at end) at) o u
-  rest_done h = todo_none (todo_same (ap (λ (xs : List ℕ). noted_bytes v xs i) (notes_none ws i end h) ∙ (unfold noted_bytes in refl)) l.todo)
+module _ (v ws : List ℕ) (at end : ℕ) (n : Noting v ws at end) {w₀ w : Writer} {i : ℕ} (l : Rests (noted_bytes v (notes_in ws i end) i) w (noted_bytes v (notes_in ws at end) at) w₀) where
+  pub rest_done : end ≤ i → Writes (noted_bytes v (notes_in ws at end) at) w₀ w
+  rest_done h = rests_done (rests_as (ap (λ (xs : List ℕ). noted_bytes v xs i) (notes_none ws i end h) ∙ (unfold noted_bytes in refl)) l)
 
   module _ (h : i < end) where
-    pub rest_index : i < length ws
-    rest_index = omega (arith, n.notes_long)
-
-    pub rest_long : 8 + 8 * i + 8 ≤ length v
-    rest_long = omega (arith, n.view_long)
-
-    pub rest_stands : Stands (node_at v i)
-    rest_stands = n.each i l.begun h
-
     next_bytes : noted_bytes v (notes_in ws i end) i ≡ record_bytes (node_at v i) (get_or ws i 0) ++ noted_bytes v (notes_in ws (i + 1) end) (i + 1)
     unfolding noted_bytes
     next_bytes = ap (λ (xs : List ℕ). noted_bytes v xs i) (notes_next ws i end h n.notes_long)
 
-    pub rest_room : Room o u (record_bytes (node_at v i) (get_or ws i 0))
-    rest_room = front _ (room_as next_bytes l.room)
+    pub rest_room : Fits (record_bytes (node_at v i) (get_or ws i 0)) w
+    rest_room = fits_front _ (fits_as next_bytes l.room)
 
-    pub rest_again : {o₁ : List ℕ} {u₁ : ℕ} → Wrote o u (record_bytes (node_at v i) (get_or ws i 0)) o₁ u₁ → Rest v ws at end o₀ to o₁ u₁ (i + 1)
-    rest_again x = record { begun = omega (arith, l.begun); room = after x (room_as next_bytes l.room); todo = todo_less x (todo_same next_bytes l.todo) }
-
-pub ruleset rests = (rest_begin, rest_done, rest_index, rest_long, rest_stands, rest_room, rest_again, rules)
+    pub rest_again : {w₁ : Writer} → Writes (record_bytes (node_at v i) (get_or ws i 0)) w w₁ → Rests (noted_bytes v (notes_in ws (i + 1) end) (i + 1)) w₁ (noted_bytes v (notes_in ws at end) at) w₀
+    rest_again x = rests_next x (rests_as next_bytes l)

@@ -6,7 +6,7 @@ use mathlib.Core.Bool.{Bool, true, false, cond}
 use mathlib.Core.List.{List, [], ◌∷◌, ◌++◌}
 use native.Mathlib.Omega.{arith}
 use lib.ListN.{length, set, length-map, length-append}
-use Rattle.word.specs.Buffer.{put, Wrote, Room}
+use Rattle.word.specs.Buffer.{put, Wrote}
 use Rattle.word.specs.Record.{rec_bytes}
 use Rattle.word.proofs.Laws.{length_rec}
 use Rattle.word.proofs.Writing.{put_append}
@@ -34,9 +34,6 @@ use Rattle.tree.specs.Trans.{expr_data, nums}
 use Rattle.tree.specs.Claims.{expr_at, type_at, data_at, limb_at, refs_at, const_tree, col_tree, class_tree, found_type, conv_bytes, block_kind, block_op}
 use Rattle.tree.proofs.Accepted.{NotIs, BinopIs, IfIs, LetIs, ExistsIs, SingleIs}
 
-pub room_as : {o : List ℕ} {at : ℕ} {xs ys : List ℕ} → xs ≡ ys → Room o at xs → Room o at ys
-room_as {o} {at} e r = subst (λ (l : List ℕ). Room o at l) e r
-
 -- ---- a record written after what follows it: BINOP's digits are known only once its operands are written, so its record is stored last.
 -- The laws of `put` for that stand here, not with the others in crate word: no other writer stores out of order.
 
@@ -56,10 +53,6 @@ unfolding put
 puts_swap o i j [] ys h = refl
 puts_swap o i j (x ∷ xs) ys h =
     ap (λ (l : List ℕ). put l (suc i) xs) (set_put o i j x ys (omega arith)) ∙ puts_swap (set o i x) (suc i) j xs ys (omega arith)
-
-pub room_behind : {o : List ℕ} {at : ℕ} {ys : List ℕ} (kind op a b c : ℕ) → Room o at (rec_bytes kind op a b c ++ ys) → Room o (at + 8) ys
-room_behind {o} {at} {ys} kind op a b c r =
-    record { within = omega (arith, r.within, length-append (rec_bytes kind op a b c) ys, length_rec kind op a b c) }
 
 pub put_last : {o : List ℕ} {at : ℕ} {ys o₁ : List ℕ} {r₁ : ℕ} {o₂ : List ℕ} {r₂ : ℕ} (kind op a b c : ℕ)
     → Wrote o (at + 8) ys o₁ r₁ → Wrote o₁ at (rec_bytes kind op a b c) o₂ r₂ → Wrote o at (rec_bytes kind op a b c ++ ys) o₂ r₁

@@ -1,30 +1,41 @@
-// What is known of an accepted value: by the walk of names and types its type; its type from its parts' types; what a name's finding tells.
+// What is known of an accepted value, by the walk of names and types; a type from its parts' types; what a name's finding tells.
 // The value at a record is that of specs/Claims.
 ghost use Rattle.std.specs.Prelude.{◌≡◌};
 ghost use Rattle.cell.specs.Res.{or_else};
 ghost use Rattle.cell.specs.Types.{binop_type};
 ghost use Rattle.cell.specs.declared.Type.TheVariants.{Null};
-ghost use Rattle.tree.specs.Claims.{type_at, Accepted, found_type, found_info, row_info};
+ghost use Rattle.tree.specs.Claims.{found_type, found_info, row_info};
+ghost use Rattle.tree.specs.Levels.{AcceptedIn, ToldIn};
 
-// Its type.
-pub fn type_at(
-    cat: &[u8],
-    starts: &[u16; 32],
-    view: &[u8],
-    f: resolve::Files,
-    at: usize,
-    depth: usize,
-    t: [scope::Scope; 16],
-    deep: usize,
-    pad: &mut [u64; 1024],
-) -> cell::Type
-    requires { Accepted cat.now starts.now view.now f t deep depth at }
-    ensures { result ≡ type_at cat.now view.now f t deep depth at }
+use crate::{Level, Part};
+
+/// What is known of the accepted value at a record. What the pad holds afterwards isn't said.
+pub fn known_at(level: &Level, at: usize, pad: &mut [u64; 1024]) -> Part
+    requires { AcceptedIn level.now at }
+    ensures { ToldIn level.now at result }
 {
-    let mut held = scope::words_of(t);
-    match resolve::value(cat, starts, view, f, at, depth, &mut held, deep, pad) {
-        resolve::Typed::Is(x) => x.ty,
-        resolve::Typed::Refused(_, _) => cell::Type::Null,
+    let mut held = scope::words_of(*level.scopes);
+    let resolve::Typed::Is(x) = resolve::value(
+        level.cat,
+        level.starts,
+        level.view,
+        level.files,
+        at,
+        level.depth,
+        &mut held,
+        level.deep,
+        pad,
+    ) else {
+        return Part {
+            ty: cell::Type::Null,
+            info: class::Info::Fixed(0),
+            next: at,
+        };
+    };
+    Part {
+        ty: x.ty,
+        info: x.info,
+        next: x.next as usize,
     }
 }
 

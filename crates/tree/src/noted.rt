@@ -1,13 +1,14 @@
 // The data of a value written from its notes, in one loop: each record of the view gives one of the tree, with CONV before it where its note is marked.
-// A writer returns the place after what it wrote. The definitions are in specs/Noted.
+// The definitions are in specs/Noted.
 ghost use Rattle.std.specs.Prelude.{◌≡◌, ◌+◌, ◌*◌, ◌/◌, ◌≤◌, length};
-ghost use Rattle.word.specs.Buffer.{Wrote, Room};
+ghost use Rattle.word.specs.Writer.{Writes};
 ghost use Rattle.view.specs.Record.{node_at};
 ghost use Rattle.tree.specs.Tree.{rec_of};
+ghost use Rattle.tree.specs.Levels.{Fits};
 ghost use Rattle.tree.specs.Noted.{mark_bytes, name_bytes, plain_bytes, record_bytes, noted_bytes, notes_in, Stands, Noting};
 
 use crate::kinds;
-use word::Record;
+use word::{Record, Writer};
 
 // The kinds of a view's records that a tree has in other words.
 const BINOP: u8 = 7;
@@ -21,21 +22,14 @@ const CLASSOF: u8 = 15;
 const LET: u8 = 16;
 
 // CONV before a record, where the top byte m of its note isn't 0.
-fn put_mark(m: u8, out: &mut [u8], to: usize) -> usize
-    requires { Room out.old to (mark_bytes m) }
-    ensures { Wrote out.old to (mark_bytes m) out.new result }
+fn put_mark(m: u8, writer: &mut Writer)
+    requires { Fits (mark_bytes m) writer.old }
+    ensures { Writes (mark_bytes m) writer.old writer.new }
 {
     if m == 0 {
-        return to;
+        return;
     }
-    word::put_record(
-        out,
-        to,
-        Record {
-            op: m,
-            ..kinds::CONV
-        },
-    )
+    writer.put(Record { op: m, ..kinds::CONV });
 }
 
 // COL by its note: DATA or LOCAL.
@@ -83,33 +77,24 @@ fn plain(view: &[u8], i: usize, note: u64) -> Record
 }
 
 // The same, written, with CONV before it where the note is marked.
-fn put_noted(view: &[u8], i: usize, note: u64, out: &mut [u8], to: usize) -> usize
+fn put_noted(view: &[u8], i: usize, note: u64, writer: &mut Writer)
     requires i_in_bounds { 8 + 8 * i + 8 ≤ length view.now }
     requires stands { Stands (node_at view.now i) }
-    requires room { Room out.old to (record_bytes (node_at view.now i) note) }
-    ensures { Wrote out.old to (record_bytes (node_at view.now i) note) out.new result }
+    requires room { Fits (record_bytes (node_at view.now i) note) writer.old }
+    ensures { Writes (record_bytes (node_at view.now i) note) writer.old writer.new }
 {
     let mark = (note / 72057594037927936) as u8;
-    let a = put_mark(mark, out, to);
-    word::put_record(out, a, plain(view, i, note))
+    put_mark(mark, writer);
+    writer.put(plain(view, i, note));
 }
 
-/// The records of a value from record `at` on, before `end`, each with its note. Returns the place after what it wrote.
-pub fn write_noted(
-    view: &[u8],
-    notes: &[u64],
-    at: usize,
-    end: usize,
-    out: &mut [u8],
-    to: usize,
-) -> usize
+/// The records of a value from record `at` on, before `end`, each with its note.
+pub fn write_noted(view: &[u8], notes: &[u64], at: usize, end: usize, writer: &mut Writer)
     requires noting { Noting view.now notes.now at end }
-    requires room { Room out.old to (noted_bytes view.now (notes_in notes.now at end) at) }
-    ensures { Wrote out.old to (noted_bytes view.now (notes_in notes.now at end) at) out.new result }
+    requires room { Fits (noted_bytes view.now (notes_in notes.now at end) at) writer.old }
+    ensures { Writes (noted_bytes view.now (notes_in notes.now at end) at) writer.old writer.new }
 {
-    let mut u = to;
     for i in at..end {
-        u = put_noted(view, i, notes[i], out, u);
+        put_noted(view, i, notes[i], writer);
     }
-    u
 }

@@ -1,15 +1,14 @@
 // The records of a data tree that have no children of their own to write: constants, names, CONV, TABLE; and a block's own.
-// A writer returns the place after what it wrote.
 ghost use Rattle.std.specs.Prelude.{◌≡◌, ◌+◌, ◌*◌, ◌≤◌, ◌<◌, length};
-ghost use Rattle.word.specs.Buffer.{Wrote, Room};
+ghost use Rattle.word.specs.Writer.{Writes};
 ghost use Rattle.view.specs.Record.{node_at};
-ghost use Rattle.resolve.specs.Claims.{Narrow, Tabled};
+ghost use Rattle.resolve.specs.Claims.{Narrow};
 ghost use Rattle.tree.specs.Tree.{rec_of, encode, table_recs};
-ghost use Rattle.tree.specs.Trans.{nums};
-ghost use Rattle.tree.specs.Claims.{refs_at, IsConst, const_tree, col_tree, class_tree, conv_bytes, block_op, block_rec};
+ghost use Rattle.tree.specs.Claims.{IsConst, const_tree, col_tree, class_tree, conv_bytes, block_op, block_rec};
+ghost use Rattle.tree.specs.Levels.{tables_named_in, TabledIn, Fits};
 
-use crate::kinds;
-use word::Record;
+use crate::{kinds, Level};
+use word::{Record, Writer};
 
 // The constant at a record of a view: its record again.
 pub fn constant(view: &[u8], at: usize) -> Record
@@ -54,16 +53,16 @@ pub fn cell_class(h: scope::Found) -> Record
 }
 
 // CONV before a limb of type s under IF of type t, where they differ.
-pub fn put_conv(s: cell::Type, t: cell::Type, out: &mut [u8], to: usize) -> usize
+pub fn put_conv(s: cell::Type, t: cell::Type, writer: &mut Writer)
     requires narrow { Narrow t }
-    requires room { Room out.old to (conv_bytes s t) }
-    ensures { Wrote out.old to (conv_bytes s t) out.new result }
+    requires room { Fits (conv_bytes s t) writer.old }
+    ensures { Writes (conv_bytes s t) writer.old writer.new }
 {
     if cell::same_type(s, t) {
-        return to;
+        return;
     }
     let op = 16 * cell::digits_of(t) + cell::scale_of(t);
-    word::put_record(out, to, Record { op, ..kinds::CONV })
+    writer.put(Record { op, ..kinds::CONV });
 }
 
 // The record of a block over so many tables, by what is asked of it.
@@ -97,34 +96,15 @@ pub fn block(asked: resolve::Asked, count: u16) -> Record
     }
 }
 
-/// The TABLE records of a block, with the tables' numbers: those that so many TABLE records of the view name, from record `at` on.
-/// Returns the place after what it wrote.
-pub fn table_recs(
-    cat: &[u8],
-    n: usize,
-    starts: &[u16; 32],
-    tables: usize,
-    view: &[u8],
-    at: usize,
-    count: usize,
-    out: &mut [u8],
-    to: usize,
-) -> usize
-    requires tabled { Tabled cat.now n starts.now tables view.now at count }
-    requires room { Room out.old to (table_recs (nums (refs_at cat.now n view.now at count))) }
-    ensures { Wrote out.old to (table_recs (nums (refs_at cat.now n view.now at count))) out.new result }
+/// The TABLE records of a block, with the tables' numbers: of those that so many TABLE records of the view name, from record `at` on.
+pub fn table_recs(level: &Level, at: usize, count: usize, writer: &mut Writer)
+    requires tabled { TabledIn level.now at count }
+    requires room { Fits (table_recs (tables_named_in level.now at count)) writer.old }
+    ensures { Writes (table_recs (tables_named_in level.now at count)) writer.old writer.new }
 {
-    let mut u = to;
+    let files = level.files;
     for j in 0..count {
-        let k = scope::table_number(cat, n, starts, tables, view, at + j);
-        u = word::put_record(
-            out,
-            u,
-            Record {
-                a: k as u16,
-                ..kinds::TABLE
-            },
-        );
+        let k = scope::table_number(level.cat, files.nc, level.starts, files.tables, level.view, at + j);
+        writer.put(Record { a: k as u16, ..kinds::TABLE });
     }
-    u
 }

@@ -4,10 +4,10 @@ use Prim.Native.Nat.{◌+◌, ◌*◌}
 use Rattle.tree.proofs.+write_block_write_d_write_limb.Given as goal
 
 abbrev pub decreases-write_block : goal.decreases-write_block
-decreases-write_block l = 3 * l.depth
+decreases-write_block l = 3 * l.level.now.depth
 
 abbrev pub decreases-write_d : goal.decreases-write_d
-decreases-write_d l = 3 * l.depth + 1
+decreases-write_d l = 3 * l.level.now.depth + 1
 
 abbrev pub decreases-write_limb : goal.decreases-write_limb
-decreases-write_limb l = 3 * l.depth + 2
+decreases-write_limb l = 3 * l.level.now.depth + 2

@@ -6,8 +6,8 @@ use Rattle.tree.proofs.noted.put_mark.Goals as goal
 pub returns-then-m-eq0 : goal.returns-then-m-eq0
 returns-then-m-eq0 c = search marks
 
-pub put_record-requires : goal.put_record-requires
-put_record-requires c = search marks
+pub put-requires : goal.put-requires
+put-requires c = search marks
 
 pub returns : goal.returns
 returns c = search marks

@@ -3,11 +3,11 @@
 use Rattle.tree.proofs.Noting.{mark_asks, record_room, record_done}
 use Rattle.tree.proofs.noted.put_noted.Goals as goal
 
-pub put_mark-a-requires : goal.put_mark-a-requires
-put_mark-a-requires c = mark_asks _ _ c.requires.room
+pub put_mark-requires : goal.put_mark-requires
+put_mark-requires c = mark_asks _ _ c.requires.room
 
-pub put_record-requires : goal.put_record-requires
-put_record-requires c = record_room _ _ c.put_mark-a.ensures c.requires.stands c.requires.room
+pub put-requires : goal.put-requires
+put-requires c = record_room _ _ c.put_mark.ensures c.requires.stands c.requires.room
 
 pub returns : goal.returns
-returns c = record_done _ _ c.put_mark-a.ensures _ c.plain.ensures c.put_record.ensures
+returns c = record_done _ _ c.put_mark.ensures _ c.plain.ensures c.put.ensures.bytes

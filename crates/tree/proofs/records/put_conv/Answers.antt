@@ -6,8 +6,8 @@ use Rattle.tree.proofs.records.put_conv.Goals as goal
 pub returns-then-same_type : goal.returns-then-same_type
 returns-then-same_type c = search converted
 
-pub put_record-requires : goal.put_record-requires
-put_record-requires c = search converted
+pub put-requires : goal.put-requires
+put-requires c = search converted
 
 pub returns : goal.returns
 returns c = search converted
