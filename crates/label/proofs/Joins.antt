@@ -7,21 +7,15 @@ use mathlib.Core.List.{List, ◌++◌, append_assoc}
 use native.Mathlib.Omega.{arith}
 use lib.ListN.{length}
 use Rattle.word.specs.Record.{rec_bytes}
-use Rattle.word.specs.Buffer.{Room}
 use Rattle.class.specs.Class.{lub_of}
 use Rattle.class.specs.declared.Info.{Info}
 use Rattle.class.specs.declared.Info.TheVariants.{Fixed, Bound}
-use Rattle.cell.specs.declared.Type.{«Type» as Ty}
 use Rattle.catalogue.specs.Tables.{TabRef}
 use Rattle.cell.specs.Values.{number_in}
 use Rattle.view.specs.Record.{const_rec}
 use Rattle.resolve.specs.Infos.{table_class}
 use Rattle.tree.specs.Tree.{Tree, tree_const, tree_binop, tree_not, tree_if, tree_exists, tree_value, tree_data, tree_cell_class, tree_row_class, tree_local, tree_local_class, tree_conv, tree_bind, tree_bind_class, tree_lub, tree_dom, tree_agg, tree_class, size, encode, table_recs}
 use Rattle.tree.specs.Trans.{Class, fixed, tree, as_tree, bound, info_of, by_info, nums, join, join_all, same_fixed, choice, let_class, row_classes, block_class}
-use Rattle.tree.proofs.Sizes.{length_encode}
-use Rattle.scope.specs.declared.Found.{Found}
-use Rattle.scope.specs.declared.Found.TheVariants as F
-use Rattle.label.specs.Found.{cell_tree, row_tree}
 
 -- a Bound is no Fixed
 bound_fixed : {A : Type 0} {a b : ℕ} → Bound b ≡ Fixed a → A
@@ -106,65 +100,3 @@ block_bytes ts us =
     ∙ ap (λ (l : List ℕ). rec_bytes 27 0 (length (nums ts)) 0 0 ++ l)
     (append_assoc (table_recs (nums ts)) (encode (as_tree (join_all (row_classes 0 ts ++ us)))) _
     ∙ ap (λ (l : List ℕ). table_recs (nums ts) ++ (encode (as_tree (join_all (row_classes 0 ts ++ us))) ++ l)) (class_bytes (table_class ts))))
-
--- room for the same bytes, said otherwise; and for a record
-pub room_as : {o : List ℕ} {at : ℕ} {xs ys : List ℕ} → xs ≡ ys → Room o at xs → Room o at ys
-room_as {o} {at} e r = subst (λ (l : List ℕ). Room o at l) e r
-
--- a tree has a record at least
-size_some : (t : Tree) → 1 ≤ size t
-unfolding size
-size_some (tree_const t v) = omega arith
-size_some (tree_binop op p x y) = omega arith
-size_some (tree_not x) = omega arith
-size_some (tree_if c x y) = omega arith
-size_some (tree_exists f ns w) = omega arith
-size_some (tree_value g ns w v) = omega arith
-size_some (tree_data a b c) = omega arith
-size_some (tree_cell_class a b c) = omega arith
-size_some (tree_row_class a b) = omega arith
-size_some (tree_local a) = omega arith
-size_some (tree_local_class a) = omega arith
-size_some (tree_conv p s x) = omega arith
-size_some (tree_bind v b) = omega arith
-size_some (tree_bind_class c v b) = omega arith
-size_some (tree_lub x y) = omega arith
-size_some (tree_dom x y) = omega arith
-size_some (tree_agg ns x) = omega arith
-
-pub room_some : {o : List ℕ} {at : ℕ} (t : Tree) → Room o at (encode t) → at + 8 ≤ length o
-room_some {o} {at} t r = omega (arith, r.within, length_encode t, size_some t)
-
--- what COL and CLASSOF find, in one record
-module _ {h : Found} where
-  pub cell_column : {a b c : ℕ} {t : Ty} {i r : Info} → h ≡ F.Column a b c t i r → encode (cell_tree h) ≡ rec_bytes 18 0 a b c
-  unfolding cell_tree encode
-  cell_column e = ap (λ (x : Found). encode (cell_tree x)) e
-
-  pub cell_local : {a : ℕ} {t : Ty} {i : Info} → h ≡ F.Local a t i → encode (cell_tree h) ≡ rec_bytes 21 0 a 0 0
-  unfolding cell_tree encode
-  cell_local e = ap (λ (x : Found). encode (cell_tree x)) e
-
-  pub cell_none : h ≡ F.None → encode (cell_tree h) ≡ rec_bytes 6 0 0 0 0
-  unfolding cell_tree
-  cell_none e = ap (λ (x : Found). encode (cell_tree x)) e ∙ class_bytes 0
-
-  pub cell_many : h ≡ F.Ambiguous → encode (cell_tree h) ≡ rec_bytes 6 0 0 0 0
-  unfolding cell_tree
-  cell_many e = ap (λ (x : Found). encode (cell_tree x)) e ∙ class_bytes 0
-
-  pub row_column : {a b c : ℕ} {t : Ty} {i r : Info} → h ≡ F.Column a b c t i r → encode (row_tree h) ≡ rec_bytes 19 0 a b 0
-  unfolding row_tree encode
-  row_column e = ap (λ (x : Found). encode (row_tree x)) e
-
-  pub row_local : {a : ℕ} {t : Ty} {i : Info} → h ≡ F.Local a t i → encode (row_tree h) ≡ rec_bytes 6 0 0 0 0
-  unfolding row_tree
-  row_local e = ap (λ (x : Found). encode (row_tree x)) e ∙ class_bytes 0
-
-  pub row_none : h ≡ F.None → encode (row_tree h) ≡ rec_bytes 6 0 0 0 0
-  unfolding row_tree
-  row_none e = ap (λ (x : Found). encode (row_tree x)) e ∙ class_bytes 0
-
-  pub row_many : h ≡ F.Ambiguous → encode (row_tree h) ≡ rec_bytes 6 0 0 0 0
-  unfolding row_tree
-  row_many e = ap (λ (x : Found). encode (row_tree x)) e ∙ class_bytes 0

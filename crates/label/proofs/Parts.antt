@@ -21,14 +21,14 @@ use Rattle.resolve.specs.Expr.{Expr}
 use Rattle.resolve.specs.Expr as expr
 use Rattle.resolve.specs.Resolve.{brought}
 use Rattle.resolve.specs.declared.Files.{Files}
-use Rattle.resolve.specs.declared.Known.{Known}
 use Rattle.resolve.proofs.Inversion.{ColGood, of_column, of_local, ClassGood}
 use Rattle.tree.specs.Tree.{Tree, tree_cell_class, tree_row_class, tree_local_class, encode}
 use Rattle.tree.specs.Trans.{expr_data, expr_class, Class, fixed, as_tree, info_of, by_info, join, choice, let_class, block_class}
 use Rattle.tree.specs.Claims.{expr_at, type_at, info_at, data_at}
 use Rattle.tree.proofs.Infos.{info_of_class}
-use Rattle.tree.proofs.Answers.{KnownIs}
-use Rattle.label.specs.Claims.{class_at, IsTree, Told}
+use Rattle.tree.specs.Levels.{Told}
+use Rattle.tree.specs.declared.Part.{Part}
+use Rattle.label.specs.Claims.{class_at, IsTree}
 use Rattle.label.specs.Found.{cell_tree, row_tree}
 use Rattle.label.proofs.Joins.{by_bytes}
 
@@ -133,10 +133,5 @@ module _ (c v : List ℕ) (f : Files) where
       classof_bytes k = by_found _ k.table.row (tree_row_class k.a k.b) k.is refl ∙ ap (λ (u : Found). encode (row_tree u)) (sym (e ∙ ap (found_of (infos_of t deep)) k.found))
 
 -- ---- WHAT THE WALK TELLS of an accepted value
-pub told_of : (c v : List ℕ) (f : Files) (t : List Scope) (deep d at : ℕ) (x : Known) → KnownIs c v f t deep d at x → Told c v f t deep d at (record { ty = x.ty; info = x.info; next = x.next })
-told_of c v f t deep d at x k =
-    record {
-      ty_is = k.type_is;
-      info_is = k.info_is ∙ info_is c v f t deep d at;
-      next_is = k.next_is;
-    }
+pub class_known : {c v : List ℕ} {f : Files} {t : List Scope} {deep d at : ℕ} {x : Part} → Told c v f t deep d at x → x.info ≡ info_of (class_at c v f t deep d at)
+class_known {c} {v} {f} {t} {deep} {d} {at} k = k.info_is ∙ info_is c v f t deep d at

@@ -7,7 +7,7 @@ use mathlib.Core.List.{List, [], ◌∷◌, ◌++◌, map, append_assoc}
 use native.Mathlib.Omega.{arith}
 use lib.ListN.{length, get_or, replicate}
 use Rattle.word.specs.Header.{drt, header, count_at}
-use Rattle.word.specs.Buffer.{Room}
+use Rattle.word.specs.declared.writer.Writer.{Writer}
 use Rattle.word.proofs.Laws.{length_header}
 use Rattle.word.specs.Record.{rec_bytes}
 use Rattle.class.specs.Class.{dominatesb}
@@ -40,6 +40,7 @@ use Rattle.resolve.proofs.Inversion.{ViewGood, view_good, all_good}
 use Rattle.tree.specs.Tree.{Tree, size, size_pairs, size_select, table_recs, encode, encode_pairs, encode_select, tree_file}
 use Rattle.tree.specs.Trans.{expr_data, expr_class, Class, as_tree, bound, nums}
 use Rattle.tree.specs.Select.{test, table_tests, conj, root, translated}
+use Rattle.tree.specs.Levels.{Fits}
 use Rattle.tree.specs.Claims.{expr_at, data_at, next_at, refs_at, Accepted}
 use Rattle.tree.proofs.Infos.{info_of_class, bound_info}
 use Rattle.resolve.proofs.Narrow.{narrow_entry}
@@ -147,7 +148,7 @@ root_there c ss v f w = let t = taken v refl w.given.taken in (t.tables, t.value
 pub root_long : (c ss v : List ℕ) (f : Files) (w : Viewed c ss v f) → 8 + 8 * 0 + 8 ≤ length v
 root_long c ss v f w = let t = taken v refl w.given.taken in omega (arith, t.some, t.long)
 
-pub room_head : {o : List ℕ} (n : ℕ) → Room o 0 (header drt n) → 8 ≤ length o
+pub room_head : {x : Writer} (n : ℕ) → Fits (header drt n) x → x.at + 8 ≤ length x.out.now
 room_head n r = omega (arith, r.within, length_header drt n refl)
 
 module _ (c ss v : List ℕ) (f : Files) (w : Viewed c ss v f) (tables values : ℕ) (g : node_at v 0 ≡ Sel tables values) where

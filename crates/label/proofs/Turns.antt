@@ -38,13 +38,14 @@ use Rattle.tree.specs.Trans.{Class, fixed, as_tree, info_of, nums, join, join_al
 use Rattle.tree.specs.Claims.{type_at, info_at, data_at, next_at, refs_at, Accepted}
 use Rattle.tree.proofs.Infos.{join_info, choice_info, let_info}
 use Rattle.tree.proofs.Accepted.{LetIs, BlockIs, const_is, col_is, classof_is, not_is, binop_is, if_is, let_is, block_is, exists_is, single_is}
-use Rattle.label.specs.Claims.{class_at, IsTree, IsBinop, Told}
+use Rattle.label.specs.Claims.{class_at, IsTree, IsBinop}
 use Rattle.label.specs.Found.{cell_tree, row_tree}
-use Rattle.label.specs.declared.Part.{Part}
-use Rattle.label.specs.Rows.{rows_to, rows_in, all_rows, Rowed, has_value, HasValue, at_where, at_kept, at_row}
+use Rattle.tree.specs.Levels.{Told}
+use Rattle.tree.specs.declared.Part.{Part}
+use Rattle.label.specs.Rows.{rows_to, rows_in, all_rows, Rowed, Valued, at_where, at_kept, at_valued, at_row}
 use Rattle.label.proofs.Joins.{class_bytes, fixed_bytes, join_turned, join_open, choice_open, let_fixed, let_open, block_bytes}
 use Rattle.label.proofs.FromLeft.{rows_where, rows_value}
-use Rattle.label.proofs.Parts.{info_is, const_class, not_class, binop_class, if_class, let_class_lem, exists_class, single_class, col_bytes, classof_bytes}
+use Rattle.label.proofs.Parts.{class_known, const_class, not_class, binop_class, if_class, let_class_lem, exists_class, single_class, col_bytes, classof_bytes}
 
 fixed_bound : {A : Type 0} {a b : ℕ} → Fixed a ≡ Bound b → A
 fixed_bound e = absurd (let z : ◌≡◌ {A = ℕ} 0 1 = cc in omega arith)
@@ -60,16 +61,16 @@ module _ (i : Class) {h : Info} (k : h ≡ info_of i) where
 
 module _ {c v : List ℕ} {f : Files} {t : List Scope} {deep d at : ℕ} {x : Part} (k : Told c v f t deep d at x) where
   pub told_fixed : {a : ℕ} → x.info ≡ Fixed a → encode (as_tree (class_at c v f t deep d at)) ≡ rec_bytes 6 0 a 0 0
-  told_fixed g = known_fixed (class_at c v f t deep d at) k.info_is g
+  told_fixed g = known_fixed (class_at c v f t deep d at) (class_known k) g
 
   pub told_tree : {b : ℕ} → x.info ≡ Bound b → IsTree (class_at c v f t deep d at)
-  told_tree g = known_tree (class_at c v f t deep d at) k.info_is g
+  told_tree g = known_tree (class_at c v f t deep d at) (class_known k) g
 
 -- a choice of two, by what is known of both
 module _ {c v : List ℕ} {f : Files} {t : List Scope} {deep d : ℕ} {x y : ℕ} {a b : Part} (e : Tree) (k : Told c v f t deep d x a) (l : Told c v f t deep d y b)
     {h : Info} (i : h ≡ choice_i a.info b.info) where
   chosen_info : info_of (choice e (class_at c v f t deep d x) (class_at c v f t deep d y)) ≡ h
-  chosen_info = choice_info e (class_at c v f t deep d x) (class_at c v f t deep d y) ∙ sym (i ∙ ap₂ choice_i k.info_is l.info_is)
+  chosen_info = choice_info e (class_at c v f t deep d x) (class_at c v f t deep d y) ∙ sym (i ∙ ap₂ choice_i (class_known k) (class_known l))
 
   pub choice_fixed : {n : ℕ} → h ≡ Fixed n → encode (as_tree (choice e (class_at c v f t deep d x) (class_at c v f t deep d y))) ≡ rec_bytes 6 0 n 0 0
   choice_fixed {n} g = fixed_bytes _ n (chosen_info ∙ g)
@@ -90,7 +91,7 @@ zero_bytes = class_bytes 0
 module _ {c v : List ℕ} {f : Files} {t : List Scope} {deep d x : ℕ} {a : Part} (w : ℕ) (k : Told c v f t deep d x a) {h : Info} (i : h ≡ choice_i a.info (Fixed 0)) where
   pub kept_info : info_of (at_kept c v f t deep d w x) ≡ h
   unfolding at_kept
-  kept_info = choice_info (data_at c v f t deep d w) (class_at c v f t deep d x) (fixed 0) ∙ sym (i ∙ ap₂ choice_i k.info_is (sym zero_info))
+  kept_info = choice_info (data_at c v f t deep d w) (class_at c v f t deep d x) (fixed 0) ∙ sym (i ∙ ap₂ choice_i (class_known k) (sym zero_info))
 
   pub kept_fixed : {n : ℕ} → h ≡ Fixed n → encode (as_tree (at_kept c v f t deep d w x)) ≡ rec_bytes 6 0 n 0 0
   kept_fixed {n} g = fixed_bytes _ n (kept_info ∙ g)
@@ -99,7 +100,7 @@ module _ {c v : List ℕ} {f : Files} {t : List Scope} {deep d x : ℕ} {a : Par
       ≡ rec_bytes 9 0 0 0 0 ++ (encode (data_at c v f t deep d w) ++ (encode (as_tree (class_at c v f t deep d x)) ++ rec_bytes 6 0 0 0 0))
   unfolding at_kept
   kept_tree {n} g =
-      choice_open (data_at c v f t deep d w) (class_at c v f t deep d x) (fixed 0) n (choice_info (data_at c v f t deep d w) (class_at c v f t deep d x) (fixed 0) ∙ sym (i ∙ ap₂ choice_i k.info_is (sym zero_info)) ∙ g)
+      choice_open (data_at c v f t deep d w) (class_at c v f t deep d x) (fixed 0) n (choice_info (data_at c v f t deep d w) (class_at c v f t deep d x) (fixed 0) ∙ sym (i ∙ ap₂ choice_i (class_known k) (sym zero_info)) ∙ g)
       ∙ ap (λ (l : List ℕ). rec_bytes 9 0 0 0 0 ++ (encode (data_at c v f t deep d w) ++ (encode (as_tree (class_at c v f t deep d x)) ++ l))) zero_bytes
 
 -- a join of two, by what is known of both
@@ -124,23 +125,15 @@ nums_number : (ts : List TabRef) → length (nums ts) ≡ length ts
 nums_number [] = refl
 nums_number (r ∷ rs) = ap suc (nums_number rs)
 
-not_false : (b : Bool) → not b ≡ true → b ≡ false
-not_false true e = sym e
-not_false false e = refl
+-- what is read at a row, by what is asked
+module _ {a : Asked} (c v : List ℕ) (f : Files) (t : List Scope) (deep d at : ℕ) (s : Scope) where
+  pub asked_rows : {q : Fold} → a ≡ ask.Rows q → encode (as_tree (at_row a c v f t deep d at s)) ≡ encode (as_tree (at_where c v f t deep d at s))
+  unfolding at_row
+  asked_rows e = ap (λ (b : Asked). encode (as_tree (at_row b c v f t deep d at s))) e
 
-not_true : (b : Bool) → not b ≡ false → b ≡ true
-not_true true e = refl
-not_true false e = sym e
-
--- whether a block has a value
-module _ {a : Asked} where
-  pub rows_none : {f : Fold} → a ≡ ask.Rows f → false ≡ has_value a
-  unfolding has_value
-  rows_none e = rw e
-
-  pub values_one : {g : Pick} → a ≡ ask.Values g → true ≡ has_value a
-  unfolding has_value
-  values_one e = rw e
+  pub asked_value : {g : Pick} → a ≡ ask.Values g → encode (as_tree (at_row a c v f t deep d at s)) ≡ encode (as_tree (at_valued c v f t deep d at s))
+  unfolding at_row
+  asked_value e = ap (λ (b : Asked). encode (as_tree (at_row b c v f t deep d at s))) e
 
 -- what is read at a row
 module _ (c v : List ℕ) (f : Files) (t : List Scope) (deep d at : ℕ) (s : Scope) where
@@ -148,13 +141,9 @@ module _ (c v : List ℕ) (f : Files) (t : List Scope) (deep d at : ℕ) (s : Sc
   unfolding at_where
   where_is = refl
 
-  row_is : (m : ℕ) → m ≡ next_at v f d at → at_row true c v f t deep d at s ≡ join (at_where c v f t deep d at s) (at_kept c v f t deep d at m)
-  unfolding at_row
-  row_is m e = ap (λ (l : ℕ). join (at_where c v f t deep d at s) (at_kept c v f t deep d at l)) (sym e)
-
-  pub where_alone : (single : Bool) → not single ≡ true → encode (as_tree (at_row single c v f t deep d at s)) ≡ encode (as_tree (at_where c v f t deep d at s))
-  unfolding at_row
-  where_alone single e = ap (λ (b : Bool). encode (as_tree (at_row b c v f t deep d at s))) (not_false single e)
+  valued_is : (m : ℕ) → m ≡ next_at v f d at → at_valued c v f t deep d at s ≡ join (at_where c v f t deep d at s) (at_kept c v f t deep d at m)
+  unfolding at_valued
+  valued_is m e = ap (λ (l : ℕ). join (at_where c v f t deep d at s) (at_kept c v f t deep d at l)) (sym e)
 
   -- the row classes up to the last table j, and the where
   module _ {j : ℕ} (l : (j ≡ count_in s - 1) × (j ≤ 4)) {x : Part} (k : Told c v f t deep d at x) {i : Info} (p : i ≡ info_of (rows_to (rows_in c f.nc s) j)) {h : Info} (e : h ≡ join_i i x.info) where
@@ -165,43 +154,42 @@ module _ (c v : List ℕ) (f : Files) (t : List Scope) (deep d at : ℕ) (s : Sc
     last_is = ap (λ (n : ℕ). encode (as_tree (rows_to (rows_in c f.nc s) n))) (sym l.0)
 
     where_info : h ≡ info_of (at_where c v f t deep d at s)
-    where_info = sym (ap info_of where_is ∙ joined_info _ _ all_is k.info_is e)
+    where_info = sym (ap info_of where_is ∙ joined_info _ _ all_is (class_known k) e)
 
     pub where_fixed : {n : ℕ} → h ≡ Fixed n → encode (as_tree (at_where c v f t deep d at s)) ≡ rec_bytes 6 0 n 0 0
-    where_fixed g = ap (λ (z : Class). encode (as_tree z)) where_is ∙ joined_fixed _ _ all_is k.info_is e g
+    where_fixed g = ap (λ (z : Class). encode (as_tree z)) where_is ∙ joined_fixed _ _ all_is (class_known k) e g
 
     pub where_turned : {n a : ℕ} → h ≡ Bound n → i ≡ Fixed a → encode (as_tree (at_where c v f t deep d at s))
         ≡ rec_bytes 25 0 0 0 0 ++ (encode (as_tree (class_at c v f t deep d at)) ++ encode (as_tree (rows_to (rows_in c f.nc s) j)))
     where_turned g q =
-        ap (λ (z : Class). encode (as_tree z)) where_is ∙ joined_turned _ _ all_is k.info_is e g q
+        ap (λ (z : Class). encode (as_tree z)) where_is ∙ joined_turned _ _ all_is (class_known k) e g q
         ∙ ap (λ (z : List ℕ). rec_bytes 25 0 0 0 0 ++ (encode (as_tree (class_at c v f t deep d at)) ++ z)) last_is
 
     pub where_open : {a : ℕ} → i ≡ Bound a → encode (as_tree (at_where c v f t deep d at s))
         ≡ rec_bytes 25 0 0 0 0 ++ (encode (as_tree (rows_to (rows_in c f.nc s) j)) ++ encode (as_tree (class_at c v f t deep d at)))
     where_open q =
-        ap (λ (z : Class). encode (as_tree z)) where_is ∙ joined_open _ _ all_is k.info_is e q
+        ap (λ (z : Class). encode (as_tree z)) where_is ∙ joined_open _ _ all_is (class_known k) e q
         ∙ ap (λ (z : List ℕ). rec_bytes 25 0 0 0 0 ++ (z ++ encode (as_tree (class_at c v f t deep d at)))) last_is
 
     -- and the choice of the value's class and 0
-    module _ (single : Bool) (o : not single ≡ false) {y : Part} (q : Told c v f t deep d x.next y) {w : Info} (r : w ≡ choice_i y.info (Fixed 0)) {z : Info} (u : z ≡ join_i h w) where
-      row_as : at_row single c v f t deep d at s ≡ join (at_where c v f t deep d at s) (at_kept c v f t deep d at x.next)
-      row_as = ap (λ (b : Bool). at_row b c v f t deep d at s) (not_true single o) ∙ row_is x.next k.next_is
+    module _ {y : Part} (q : Told c v f t deep d x.next y) {w : Info} (r : w ≡ choice_i y.info (Fixed 0)) {z : Info} (u : z ≡ join_i h w) where
+      row_as : at_valued c v f t deep d at s ≡ join (at_where c v f t deep d at s) (at_kept c v f t deep d at x.next)
+      row_as = valued_is x.next k.next_is
 
-      pub row_fixed : {n : ℕ} → z ≡ Fixed n → encode (as_tree (at_row single c v f t deep d at s)) ≡ rec_bytes 6 0 n 0 0
+      pub row_fixed : {n : ℕ} → z ≡ Fixed n → encode (as_tree (at_valued c v f t deep d at s)) ≡ rec_bytes 6 0 n 0 0
       row_fixed g = ap (λ (b : Class). encode (as_tree b)) row_as ∙ joined_fixed _ _ where_info (sym (kept_info at q r)) u g
 
-      pub row_turned : {n a : ℕ} → z ≡ Bound n → h ≡ Fixed a → encode (as_tree (at_row single c v f t deep d at s))
+      pub row_turned : {n a : ℕ} → z ≡ Bound n → h ≡ Fixed a → encode (as_tree (at_valued c v f t deep d at s))
           ≡ rec_bytes 25 0 0 0 0 ++ (encode (as_tree (at_kept c v f t deep d at x.next)) ++ encode (as_tree (at_where c v f t deep d at s)))
       row_turned g m = ap (λ (b : Class). encode (as_tree b)) row_as ∙ joined_turned _ _ where_info (sym (kept_info at q r)) u g m
 
-      pub row_open : {a : ℕ} → h ≡ Bound a → encode (as_tree (at_row single c v f t deep d at s))
+      pub row_open : {a : ℕ} → h ≡ Bound a → encode (as_tree (at_valued c v f t deep d at s))
           ≡ rec_bytes 25 0 0 0 0 ++ (encode (as_tree (at_where c v f t deep d at s)) ++ encode (as_tree (at_kept c v f t deep d at x.next)))
       row_open m = ap (λ (b : Class). encode (as_tree b)) row_as ∙ joined_open _ _ where_info (sym (kept_info at q r)) u m
 
 -- the value of a block that has one, where the code holds it
-pub value_there : {single : Bool} {c ss v : List ℕ} {f : Files} {t : List Scope} {deep d at : ℕ} {x : Part} → not single ≡ false → HasValue single c ss v f t deep d at → Told c v f t deep d at x
-    → Accepted c ss v f t deep d x.next
-value_there {single} {c} {ss} {v} {f} {t} {deep} {d} {at} {x} e h k = subst (λ (m : ℕ). Accepted c ss v f t deep d m) (sym k.next_is) (h.value (not_true single e))
+pub value_there : {c ss v : List ℕ} {f : Files} {t : List Scope} {deep d at : ℕ} {x : Part} → Accepted c ss v f t deep d (next_at v f d at) → Told c v f t deep d at x → Accepted c ss v f t deep d x.next
+value_there {c} {ss} {v} {f} {t} {deep} {d} {at} {x} w k = subst (λ (m : ℕ). Accepted c ss v f t deep d m) (sym k.next_is) w
 
 -- ---- BY KIND, at an accepted value
 module _ {c ss v : List ℕ} {f : Files} {t : List Scope} {deep d at : ℕ} (w : Accepted c ss v f t deep d at) where
@@ -241,11 +229,11 @@ module _ {c ss v : List ℕ} {f : Files} {t : List Scope} {deep d at : ℕ} (w :
       pub binop_turned : {a : ℕ} → IsTree (class_at c v f t deep d at) → x.info ≡ Fixed a → encode (as_tree (class_at c v f t deep d at))
           ≡ rec_bytes 25 0 0 0 0 ++ (encode (as_tree (class_at c v f t deep (d - 1) x.next)) ++ encode (as_tree (class_at c v f t deep (d - 1) (at + 1))))
       binop_turned {a} b i =
-          ap (λ (z : Class). encode (as_tree z)) binop_join ∙ join_turned _ _ a b.upper (sym k.info_is ∙ i) (ap info_of (sym binop_join) ∙ b.is)
+          ap (λ (z : Class). encode (as_tree z)) binop_join ∙ join_turned _ _ a b.upper (sym (class_known k) ∙ i) (ap info_of (sym binop_join) ∙ b.is)
 
       pub binop_open : {a : ℕ} → x.info ≡ Bound a → encode (as_tree (class_at c v f t deep d at))
           ≡ rec_bytes 25 0 0 0 0 ++ (encode (as_tree (class_at c v f t deep (d - 1) (at + 1))) ++ encode (as_tree (class_at c v f t deep (d - 1) x.next)))
-      binop_open {a} i = ap (λ (z : Class). encode (as_tree z)) binop_join ∙ join_open _ _ a (sym k.info_is ∙ i)
+      binop_open {a} i = ap (λ (z : Class). encode (as_tree z)) binop_join ∙ join_open _ _ a (sym (class_known k) ∙ i)
 
   -- IF
   module _ (g : node_at v at ≡ If) where
@@ -268,11 +256,11 @@ module _ {c ss v : List ℕ} {f : Files} {t : List Scope} {deep d at : ℕ} (w :
 
         pub if_turned : {a : ℕ} → IsTree (class_at c v f t deep d at) → x.info ≡ Fixed a → encode (as_tree (class_at c v f t deep d at))
             ≡ rec_bytes 25 0 0 0 0 ++ (encode (as_tree (choice (data_at c v f t deep (d - 1) (at + 1)) (class_at c v f t deep (d - 1) x.next) (class_at c v f t deep (d - 1) y.next))) ++ encode (as_tree (class_at c v f t deep (d - 1) (at + 1))))
-        if_turned {a} b i = ap (λ (z : Class). encode (as_tree z)) if_join ∙ join_turned _ _ a b.upper (sym k.info_is ∙ i) (ap info_of (sym if_join) ∙ b.is)
+        if_turned {a} b i = ap (λ (z : Class). encode (as_tree z)) if_join ∙ join_turned _ _ a b.upper (sym (class_known k) ∙ i) (ap info_of (sym if_join) ∙ b.is)
 
         pub if_open : {a : ℕ} → x.info ≡ Bound a → encode (as_tree (class_at c v f t deep d at))
             ≡ rec_bytes 25 0 0 0 0 ++ (encode (as_tree (class_at c v f t deep (d - 1) (at + 1))) ++ encode (as_tree (choice (data_at c v f t deep (d - 1) (at + 1)) (class_at c v f t deep (d - 1) x.next) (class_at c v f t deep (d - 1) y.next))))
-        if_open {a} i = ap (λ (z : Class). encode (as_tree z)) if_join ∙ join_open _ _ a (sym k.info_is ∙ i)
+        if_open {a} i = ap (λ (z : Class). encode (as_tree z)) if_join ∙ join_open _ _ a (sym (class_known k) ∙ i)
 
   -- LET
   module _ {name : ℕ} (g : node_at v at ≡ Let name) where
@@ -281,7 +269,7 @@ module _ {c ss v : List ℕ} {f : Files} {t : List Scope} {deep d at : ℕ} (w :
 
     module _ {x : Part} (k : Told c v f t deep (d - 1) (at + 1) x) {s : Scope} (p : s ≡ local_scope name x.ty x.info) {u : List Scope} (q : u ≡ set t deep s) where
       bound_there : LetIs c ss v f t u deep d at x.next
-      bound_there = let_is c ss v f t deep d at w _ refl name x.next s u g k.next_is (p ∙ ap₂ (local_scope name) k.ty_is (k.info_is ∙ sym (info_is c v f t deep (d - 1) (at + 1)))) q
+      bound_there = let_is c ss v f t deep d at w _ refl name x.next s u g k.next_is (p ∙ ap₂ (local_scope name) k.ty_is (k.info_is)) q
 
       pub body_there : Accepted c ss v f u (deep + 1) (d - 1) x.next
       body_there = bound_there.body
@@ -294,11 +282,11 @@ module _ {c ss v : List ℕ} {f : Files} {t : List Scope} {deep d at : ℕ} (w :
 
       pub bind_bytes : {a : ℕ} → IsTree (class_at c v f t deep d at) → x.info ≡ Fixed a → encode (as_tree (class_at c v f t deep d at))
           ≡ rec_bytes 23 0 0 0 0 ++ (encode (data_at c v f t deep (d - 1) (at + 1)) ++ encode (as_tree (class_at c v f u (deep + 1) (d - 1) x.next)))
-      bind_bytes {a} b i = ap (λ (z : Class). encode (as_tree z)) let_join ∙ let_fixed _ _ _ a b.upper (sym k.info_is ∙ i) (body_open b)
+      bind_bytes {a} b i = ap (λ (z : Class). encode (as_tree z)) let_join ∙ let_fixed _ _ _ a b.upper (sym (class_known k) ∙ i) (body_open b)
 
       pub bindc_bytes : {a : ℕ} → IsTree (class_at c v f t deep d at) → x.info ≡ Bound a → encode (as_tree (class_at c v f t deep d at))
           ≡ rec_bytes 24 0 0 0 0 ++ (encode (as_tree (class_at c v f t deep (d - 1) (at + 1))) ++ (encode (data_at c v f t deep (d - 1) (at + 1)) ++ encode (as_tree (class_at c v f u (deep + 1) (d - 1) x.next))))
-      bindc_bytes {a} b i = ap (λ (z : Class). encode (as_tree z)) let_join ∙ let_open _ _ _ a b.upper (sym k.info_is ∙ i) (body_open b)
+      bindc_bytes {a} b i = ap (λ (z : Class). encode (as_tree z)) let_join ∙ let_open _ _ _ a b.upper (sym (class_known k) ∙ i) (body_open b)
 
   -- A BLOCK, by what is asked of it
   module _ (asked : Asked) (count : ℕ) (g : node_at v at ≡ block_node asked count) {o : Opened}
@@ -343,20 +331,16 @@ module _ {c ss v : List ℕ} {f : Files} {t : List Scope} {deep d at : ℕ} (w :
           counted = n ∙ sym (ap length rows_are ∙ rows_number (refs_at c f.nc v (at + 1) count));
         }
 
-    value_by : (s : Asked) → asked ≡ s → has_value asked ≡ true → Accepted c ss v f u (deep + 1) (d - 1) (next_at v f (d - 1) (at + 1 + count))
-    value_by (ask.Rows h) e i = absurd (let y : false ≡ true = rows_none e ∙ i in let z : ◌≡◌ {A = ℕ} 0 1 = cc in omega arith)
-    value_by (ask.Values h) e i = (single_is c ss v f t deep d at w asked count g o p u q h _ e refl).value
-
-    pub value_of : {b : Bool} → b ≡ has_value asked → HasValue b c ss v f u (deep + 1) (d - 1) (at + 1 + count)
-    value_of e = record { value = λ i. value_by asked refl (sym e ∙ i) }
+    pub value_of : Valued asked c ss v f u (deep + 1) (d - 1) (at + 1 + count)
+    value_of = record { value = λ h e. (single_is c ss v f t deep d at w asked count g o p u q h _ e refl).value }
 
     inside : join_all (row_classes 0 refs ++ (class_at c v f u (deep + 1) (d - 1) (at + 1 + count) ∷ [])) ≡ at_where c v f u (deep + 1) (d - 1) (at + 1 + count) o.scope
     unfolding at_where
     inside = rows_where (rows_in c f.nc o.scope) refs rows_are (count_in o.scope) refs_count rowed.some _
 
     inside_value : join_all (row_classes 0 refs ++ (class_at c v f u (deep + 1) (d - 1) (at + 1 + count) ∷ choice (data_at c v f u (deep + 1) (d - 1) (at + 1 + count)) (class_at c v f u (deep + 1) (d - 1) (next_at v f (d - 1) (at + 1 + count))) (fixed 0) ∷ []))
-        ≡ at_row true c v f u (deep + 1) (d - 1) (at + 1 + count) o.scope
-    unfolding at_row at_where at_kept
+        ≡ at_valued c v f u (deep + 1) (d - 1) (at + 1 + count) o.scope
+    unfolding at_valued at_where at_kept
     inside_value = rows_value (rows_in c f.nc o.scope) refs rows_are (count_in o.scope) refs_count rowed.some _ _
 
     exists_block : (h : Fold) → asked ≡ ask.Rows h → class_at c v f t deep d at ≡ block_class refs (class_at c v f u (deep + 1) (d - 1) (at + 1 + count) ∷ [])
@@ -370,22 +354,22 @@ module _ {c ss v : List ℕ} {f : Files} {t : List Scope} {deep d at : ℕ} (w :
     record AsBlock : Type 0 where
       us : List Class
       whole : class_at c v f t deep d at ≡ block_class refs us
-      row : join_all (row_classes 0 refs ++ us) ≡ at_row (has_value asked) c v f u (deep + 1) (d - 1) (at + 1 + count) o.scope
+      row : join_all (row_classes 0 refs ++ us) ≡ at_row asked c v f u (deep + 1) (d - 1) (at + 1 + count) o.scope
 
     as_block : (s : Asked) → asked ≡ s → AsBlock
     unfolding at_row
-    as_block (ask.Rows h) e = record { us = _; whole = exists_block h e; row = inside ∙ ap (λ (z : Bool). at_row z c v f u (deep + 1) (d - 1) (at + 1 + count) o.scope) (rows_none e) }
+    as_block (ask.Rows h) e = record { us = _; whole = exists_block h e; row = inside ∙ ap (λ (z : Asked). at_row z c v f u (deep + 1) (d - 1) (at + 1 + count) o.scope) (sym e) }
     as_block (ask.Values h) e =
         record {
           us = _;
           whole = single_block h e;
-          row = inside_value ∙ ap (λ (z : Bool). at_row z c v f u (deep + 1) (d - 1) (at + 1 + count) o.scope) (values_one e);
+          row = inside_value ∙ ap (λ (z : Asked). at_row z c v f u (deep + 1) (d - 1) (at + 1 + count) o.scope) (sym e);
         }
 
-    pub aggregate_bytes : {s : Bool} {k : ℕ} → s ≡ has_value asked → k ≡ lub_all (classes_of (tables_in (open_of c f.nc o.scope))) → encode (as_tree (class_at c v f t deep d at))
+    pub aggregate_bytes : {k : ℕ} → k ≡ lub_all (classes_of (tables_in (open_of c f.nc o.scope))) → encode (as_tree (class_at c v f t deep d at))
         ≡ rec_bytes 25 0 0 0 0 ++ (rec_bytes 27 0 count 0 0 ++ (table_recs (nums (refs_at c f.nc v (at + 1) count))
-        ++ (encode (as_tree (at_row s c v f u (deep + 1) (d - 1) (at + 1 + count) o.scope)) ++ rec_bytes 6 0 k 0 0)))
-    aggregate_bytes {s} {k} h e =
+        ++ (encode (as_tree (at_row asked c v f u (deep + 1) (d - 1) (at + 1 + count) o.scope)) ++ rec_bytes 6 0 k 0 0)))
+    aggregate_bytes {k} e =
         let b = as_block asked refl in
         let n : length (nums refs) ≡ count = nums_number refs ∙ opened_there.counted in
         let m : table_class refs ≡ k = sym (e ∙ ap lub_all (ap classes_of own_tables ∙ map_classes refs)) in
@@ -393,4 +377,4 @@ module _ {c ss v : List ℕ} {f : Files} {t : List Scope} {deep d at : ℕ} (w :
         ∙ block_bytes refs b.us
         ∙ ap₂ (λ (x y : ℕ). rec_bytes 25 0 0 0 0 ++ (rec_bytes 27 0 x 0 0 ++ (table_recs (nums refs) ++ (encode (as_tree (join_all (row_classes 0 refs ++ b.us))) ++ rec_bytes 6 0 y 0 0)))) n m
         ∙ ap (λ (z : Class). rec_bytes 25 0 0 0 0 ++ (rec_bytes 27 0 count 0 0 ++ (table_recs (nums refs) ++ (encode (as_tree z) ++ rec_bytes 6 0 k 0 0))))
-        (b.row ∙ ap (λ (z : Bool). at_row z c v f u (deep + 1) (d - 1) (at + 1 + count) o.scope) (sym h))
+        b.row

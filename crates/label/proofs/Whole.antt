@@ -7,7 +7,6 @@ use mathlib.Core.List.{List, [], ◌∷◌, ◌++◌, map, append_assoc}
 use native.Mathlib.Omega.{arith}
 use lib.ListN.{length, get_or, drop}
 use lib.Seq.{get_or-drop, drop-drop}
-use Rattle.word.specs.Buffer.{Wrote}
 use Rattle.word.proofs.Writing.{put_nil}
 use Rattle.word.specs.Record.{rec_bytes}
 use Rattle.class.specs.Class.{dominatesb}
@@ -119,6 +118,13 @@ tests_some q ks is j (suc i) k n e =
     more : (i : ℕ) → test_bytes q ks is j (suc i) ≡ flat (test q (fixed (get_or ks j 0))) ++ (flat (test q (row_item is j)) ++ test_bytes q ks is (suc j) i)
     more i = unfold test_bytes in refl
 
+-- the same, table j of so many
+pub tests_next : (q : ℕ) (ks : List ℕ) (is : List Info) (j n k : ℕ) → j < n → k ≡ get_or ks j 0
+    → test_bytes q ks is j (n - j) ≡ flat (test q (fixed k)) ++ (flat (test q (row_item is j)) ++ test_bytes q ks is (j + 1) (n - (j + 1)))
+tests_next q ks is j n k l e =
+    let z : n - j - 1 ≡ n - (j + 1) = omega arith in
+    tests_some q ks is j (n - j) k (λ h. omega arith) e ∙ ap (λ (i : ℕ). flat (test q (fixed k)) ++ (flat (test q (row_item is j)) ++ test_bytes q ks is (j + 1) i)) z
+
 drop_head : {A : Type 0} (xs : List A) (n : ℕ) (d x : A) (ys : List A) → drop n xs ≡ x ∷ ys → get_or xs n d ≡ x
 drop_head {A} xs n d x ys e =
     let z : n ≡ n + 0 = omega arith in
@@ -184,7 +190,3 @@ module _ (c v : List ℕ) (f : Files) (t : List Scope) where
   unfolding pair_bytes
   pairs_none zero m l = refl
   pairs_none (suc i) m l = absurd (omega arith)
-
--- nothing written
-pub wrote_nothing : {o : List ℕ} {at : ℕ} (xs : List ℕ) → xs ≡ [] → Wrote o at xs o at
-wrote_nothing {o} {at} xs e = subst (λ (l : List ℕ). Wrote o at l o at) (sym e) (record { now_is = sym (put_nil o at); next_is = omega arith })

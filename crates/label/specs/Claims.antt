@@ -1,4 +1,4 @@
--- What the writers of classes say of a record: its class, and what was found of its value, as total functions of the files' bytes.
+-- What the writers of classes say of a record: its class, as a total function of the files' bytes.
 -- Assumes nothing.
 use Rattle.std.specs.Prelude.{ℕ, ◌≡◌, List}
 use Rattle.class.specs.declared.Info.TheVariants.{Bound}
@@ -8,8 +8,7 @@ use Rattle.scope.specs.Table.{infos_of}
 use Rattle.scope.specs.declared.Scope.{Scope}
 use Rattle.resolve.specs.declared.Files.{Files}
 use Rattle.tree.specs.Trans.{expr_class, Class, info_of}
-use Rattle.tree.specs.Claims.{expr_at, type_at, next_at}
-use Rattle.label.specs.declared.Part.{Part}
+use Rattle.tree.specs.Claims.{expr_at}
 
 -- THE CLASS of the value at a record
 unfoldable pub class_at : List ℕ → List ℕ → Files → List Scope → ℕ → ℕ → ℕ → Class
@@ -24,9 +23,3 @@ pub record IsTree (i : Class) : Type 0 where
 pub record IsBinop (v : List ℕ) (at : ℕ) : Type 0 where
   pub op : ℕ
   pub is : node_at v at ≡ Binop op
-
--- what is known of the value at a record
-pub record Told (c v : List ℕ) (f : Files) (t : List Scope) (deep d at : ℕ) (r : Part) : Type 0 where
-  pub ty_is : r.ty ≡ type_at c v f t deep d at
-  pub info_is : r.info ≡ info_of (class_at c v f t deep d at)
-  pub next_is : r.next ≡ next_at v f d at

@@ -1,8 +1,9 @@
 -- The row classes of a block, joined from the left up to one of its tables; and what is asked of the block's entry.
 -- Assumes nothing.
-use Rattle.std.specs.Prelude.{ℕ, zero, suc, ◌+◌, ◌*◌, ◌-◌, ◌≤◌, ◌≡◌, List, length, get_or, Bool, true, false}
+use Rattle.std.specs.Prelude.{ℕ, zero, suc, ◌+◌, ◌*◌, ◌-◌, ◌≤◌, ◌≡◌, List, length, get_or}
 use Rattle.class.specs.declared.Info.{Info}
 use Rattle.class.specs.declared.Info.TheVariants.{Fixed}
+use Rattle.view.specs.declared.Pick.{Pick}
 use Rattle.scope.specs.Words.{count_in}
 use Rattle.scope.specs.Table.{open_of}
 use Rattle.scope.specs.Entry.{tables_in, rows_of, Among}
@@ -40,11 +41,6 @@ pub record Rowed (c : List ℕ) (n : ℕ) (s : Scope) : Type 0 where
   pub few : count_in s ≤ 4
   pub counted : count_in s ≡ length (rows_in c n s)
 
--- EXISTS and COUNT have no value; VALUE, MAX and MIN have one
-unfoldable pub has_value : Asked → Bool
-has_value (ask.Rows f) = false
-has_value (ask.Values g) = true
-
 -- what is read at one row: the row classes and the where's, which stands at record `at`; where the block has a value also the choice, under the where, of the value's class and 0
 unfoldable pub at_where : List ℕ → List ℕ → Files → List Scope → ℕ → ℕ → ℕ → Scope → Class
 at_where c v f t deep d at s = join (all_rows c f.nc s) (class_at c v f t deep d at)
@@ -52,10 +48,14 @@ at_where c v f t deep d at s = join (all_rows c f.nc s) (class_at c v f t deep d
 unfoldable pub at_kept : List ℕ → List ℕ → Files → List Scope → ℕ → ℕ → ℕ → ℕ → Class
 at_kept c v f t deep d at m = choice (data_at c v f t deep d at) (class_at c v f t deep d m) (fixed 0)
 
-unfoldable pub at_row : Bool → List ℕ → List ℕ → Files → List Scope → ℕ → ℕ → ℕ → Scope → Class
-at_row false c v f t deep d at s = at_where c v f t deep d at s
-at_row true c v f t deep d at s = join (at_where c v f t deep d at s) (at_kept c v f t deep d at (next_at v f d at))
+unfoldable pub at_valued : List ℕ → List ℕ → Files → List Scope → ℕ → ℕ → ℕ → Scope → Class
+at_valued c v f t deep d at s = join (at_where c v f t deep d at s) (at_kept c v f t deep d at (next_at v f d at))
+
+-- EXISTS and COUNT have no value; VALUE, MAX and MIN have one
+unfoldable pub at_row : Asked → List ℕ → List ℕ → Files → List Scope → ℕ → ℕ → ℕ → Scope → Class
+at_row (ask.Rows q) c v f t deep d at s = at_where c v f t deep d at s
+at_row (ask.Values g) c v f t deep d at s = at_valued c v f t deep d at s
 
 -- where a block has a value, it is accepted, after the where at record `at`
-pub record HasValue (single : Bool) (c ss v : List ℕ) (f : Files) (t : List Scope) (deep d at : ℕ) : Type 0 where
-  pub value : single ≡ true → Accepted c ss v f t deep d (next_at v f d at)
+pub record Valued (asked : Asked) (c ss v : List ℕ) (f : Files) (t : List Scope) (deep d at : ℕ) : Type 0 where
+  pub value : (g : Pick) → asked ≡ ask.Values g → Accepted c ss v f t deep d (next_at v f d at)

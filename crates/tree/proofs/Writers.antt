@@ -69,6 +69,9 @@ pub writes_none : {w : Writer} → Writes [] w w
 unfolding put
 writes_none = record { same = refl; place = omega arith; written = refl }
 
+pub writes_nothing : {xs : List ℕ} {w : Writer} → xs ≡ [] → Writes xs w w
+writes_nothing e = rw e writes_none
+
 -- a record written after what follows it
 pub fits_behind : {ys : List ℕ} {w : Writer} (kind op a b c : ℕ) → Fits (rec_bytes kind op a b c ++ ys) w → Fits ys (record { out = w.out; at = w.at + 8 })
 fits_behind {ys} kind op a b c r = record { within = omega (arith, r.within, length-append (rec_bytes kind op a b c) ys, length_rec kind op a b c) }

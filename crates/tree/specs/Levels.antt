@@ -20,6 +20,10 @@ data_in l at = data_at l.cat.now l.view.now l.files l.scopes.now l.deep l.depth 
 abbrev pub limb_in : Level → ℕ → Ty → Tree
 limb_in l at r = limb_at l.cat.now l.view.now l.files l.scopes.now l.deep l.depth at r
 
+-- the record after it
+abbrev pub next_in : Level → ℕ → ℕ
+next_in l at = next_at l.view.now l.files l.depth at
+
 -- it is accepted
 abbrev pub AcceptedIn : Level → ℕ → Type 0
 AcceptedIn l at = Accepted l.cat.now l.starts.now l.view.now l.files l.scopes.now l.deep l.depth at

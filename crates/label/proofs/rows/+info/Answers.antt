@@ -7,4 +7,4 @@ pub returns-then-j-eq0 : goal.returns-then-j-eq0
 returns-then-j-eq0 t c = rows_first _ _ _ c.if-j-eq0.true c.row_info.ensures
 
 pub returns : goal.returns
-returns t c = rows_next _ _ _ _ _ c.if-j-eq0.false c.info-x.ensures c.row_info-y.ensures c.joined.ensures
+returns t c = rows_next _ _ _ _ _ c.if-j-eq0.false c.info.ensures c.row_info-2.ensures c.join.ensures

@@ -7,4 +7,4 @@ pub returns-then-left-eq0 : goal.returns-then-left-eq0
 returns-then-left-eq0 t c = tests_zero _ _ _ _ _ c.if-left-eq0.true
 
 pub returns : goal.returns
-returns t c = tests_counted _ _ _ _ _ _ _ _ _ _ _ _ _ c.if-left-eq0.false c.table_class_at-k.ensures c.row_info-i.ensures c.bound_of-b.ensures c.test_size-x.ensures c.test_size-y.ensures c.tests_size-z.ensures c.plus.ensures c.plus-2.ensures
+returns t c = tests_counted _ _ _ _ _ _ _ _ _ _ _ _ _ c.if-left-eq0.false c.table_class_at.ensures c.row_info.ensures c.bound.ensures c.test_size-x.ensures c.test_size-y.ensures c.tests_size-z.ensures c.plus.ensures c.plus-2.ensures

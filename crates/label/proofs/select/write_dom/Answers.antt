@@ -1,20 +1,19 @@
 -- `select::write_dom` meets its contract: three records.
 -- Assumes nothing.
-use mathlib.Core.Path.{sym}
-use Rattle.word.proofs.Laws.{room_rec}
-use Rattle.word.proofs.Writing.{then, wrote_as, front, after}
-use Rattle.label.proofs.Joins.{room_as}
+use mathlib.Core.Path.{sym, ◌∙◌}
+use Rattle.word.proofs.Writing.{writes_then}
+use Rattle.tree.proofs.Writers.{writes_as, writes_nothing, fits_as, fits_front, fits_after, fits_record, fits_tree}
 use Rattle.label.proofs.Whole.{dom_is}
 use Rattle.label.proofs.select.write_dom.Goals as goal
 
-pub put_rec-a-requires : goal.put_rec-a-requires
-put_rec-a-requires c = room_rec _ _ _ _ _ (front _ (room_as (dom_is _) c.requires))
+pub put-requires : goal.put-requires
+put-requires c = fits_record _ _ _ _ _ (fits_front _ (fits_as (dom_is _) c.requires))
 
-pub put_rec-b-requires : goal.put_rec-b-requires
-put_rec-b-requires c = room_rec _ _ _ _ _ (front _ (after c.put_rec-a.ensures (room_as (dom_is _) c.requires)))
+pub put-requires-2 : goal.put-requires-2
+put-requires-2 c = fits_record _ _ _ _ _ (fits_front _ (fits_after c.put.ensures.bytes (fits_as (dom_is _) c.requires)))
 
-pub put_rec-requires : goal.put_rec-requires
-put_rec-requires c = room_rec _ _ _ _ _ (after c.put_rec-b.ensures (after c.put_rec-a.ensures (room_as (dom_is _) c.requires)))
+pub put-requires-3 : goal.put-requires-3
+put-requires-3 c = fits_record _ _ _ _ _ (fits_after c.put-2.ensures.bytes (fits_after c.put.ensures.bytes (fits_as (dom_is _) c.requires)))
 
 pub returns : goal.returns
-returns c = wrote_as (sym (dom_is _)) (then c.put_rec-a.ensures (then c.put_rec-b.ensures c.put_rec.ensures))
+returns c = writes_as (sym (dom_is _)) (writes_then c.put.ensures.bytes (writes_then c.put-2.ensures.bytes c.put-3.ensures.bytes))

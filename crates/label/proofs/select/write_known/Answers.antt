@@ -1,14 +1,16 @@
 -- `select::write_known` meets its contract: a CLASS record where the class is fixed, else its tree.
 -- Assumes nothing.
-use mathlib.Core.Path.{sym}
-use Rattle.word.proofs.Laws.{room_rec}
-use Rattle.word.proofs.Writing.{wrote_as}
-use Rattle.label.proofs.Joins.{room_as}
-use Rattle.label.proofs.Turns.{known_fixed}
+use mathlib.Core.Path.{sym, ◌∙◌}
+use Rattle.word.proofs.Writing.{writes_then}
+use Rattle.tree.proofs.Writers.{writes_as, writes_nothing, fits_as, fits_front, fits_after, fits_record, fits_tree}
+use Rattle.label.proofs.Turns.{known_fixed, known_tree}
 use Rattle.label.proofs.select.write_known.Goals as goal
 
-pub put_rec-requires : goal.put_rec-requires
-put_rec-requires c = room_rec _ _ _ _ _ (room_as (known_fixed _ c.requires.info_value c.in-Fixed.is) c.requires.room)
+pub put-requires : goal.put-requires
+put-requires c = fits_record _ _ _ _ _ (fits_as (known_fixed _ c.requires.known c.in-Fixed.is) c.requires.room)
 
 pub returns-in-Fixed : goal.returns-in-Fixed
-returns-in-Fixed c = wrote_as (sym (known_fixed _ c.requires.info_value c.in-Fixed.is)) c.put_rec.ensures
+returns-in-Fixed c = writes_as (sym (known_fixed _ c.requires.known c.in-Fixed.is)) c.put.ensures.bytes
+
+pub write_open-requires : goal.write_open-requires
+write_open-requires c = record { accepted = c.requires.accepted; tree = known_tree _ c.requires.known c.in-Bound.is; room = c.requires.room }

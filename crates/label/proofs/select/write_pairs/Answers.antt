@@ -1,34 +1,26 @@
--- The loop writes what is left: storing the rest of the pairs from here on comes to storing them all.
+-- `select::write_pairs` meets its contract: the data of a value, then its class.
 -- Assumes nothing.
 use borrow.Author.Rules.{rules}
-use Rattle.word.proofs.Writing.{todo_same, todo_less, todo_none, after, front}
-use Rattle.label.proofs.Joins.{room_as}
-use Rattle.label.proofs.Left.{left_known, left_here, left_end, left_noting, left_asks, left_done, left_next}
-use Rattle.label.proofs.Whole.{accepts_some, accepts_next, pairs_some, pairs_next, pairs_none}
+use Prim.Native.Nat.{◌-◌}
+use mathlib.Core.Path.{◌≡◌}
+use native.Mathlib.Omega.{arith}
+use Rattle.label.proofs.Left.{left_known, pair_there, pair_left, pair_noting, pair_asks, class_asks, pairs_again, pairs_done}
+use Rattle.tree.proofs.Writers.{rests_begin}
 use Rattle.label.proofs.select.write_pairs.Goals as goal
 
-pub offset_bounds-ends-j : goal.offset_bounds-ends-j
-offset_bounds-ends-j c = let h = (left_here _ _ _ _ _ _ _ _ _ c.loop-i-test.true c.loop-i.invariant.left).ends_long in search rules
+pub loop-j-init : goal.loop-j-init
+loop-j-init c = let z : c.args.count - 0 ≡ c.args.count = omega arith in rw z (record { there = c.requires.accepts; left = c.requires.left_all; rests = rests_begin c.requires.room })
 
-pub bounds-ends-j : goal.bounds-ends-j
-bounds-ends-j c = let h = (left_here _ _ _ _ _ _ _ _ _ c.loop-i-test.true c.loop-i.invariant.left).ends_long in search rules
+pub write_noted-requires : goal.write_noted-requires
+write_noted-requires c = record { noting = pair_noting _ _ _ _ _ _ _ _ _ _ c.loop-j.invariant (let h = c.loop-j-test.true in omega arith) c.end_in-next.ensures; room = pair_asks _ _ _ _ _ _ _ _ _ _ c.loop-j.invariant (let h = c.loop-j-test.true in omega arith) c.end_in-next.ensures }
 
-pub write_noted-p-requires : goal.write_noted-p-requires
-write_noted-p-requires c = record { noting = left_noting _ _ _ _ _ _ _ _ _ (accepts_some _ _ _ _ _ _ _ c.loop-i-test.true c.loop-i.invariant.there).0 (left_here _ _ _ _ _ _ _ _ _ c.loop-i-test.true c.loop-i.invariant.left) c.end_in-next.ensures; room = left_asks _ _ _ _ _ _ _ _ _ (accepts_some _ _ _ _ _ _ _ c.loop-i-test.true c.loop-i.invariant.there).0 (left_here _ _ _ _ _ _ _ _ _ c.loop-i-test.true c.loop-i.invariant.left) c.end_in-next.ensures (front _ (room_as (pairs_some _ _ _ _ _ _ c.loop-i-test.true) c.loop-i.invariant.room)) }
+pub write_known-requires : goal.write_known-requires
+write_known-requires c =
+    rw (c.requires.root.0, c.requires.root.1)
+    (record { accepted = pair_there _ _ _ _ _ _ _ _ _ _ c.loop-j.invariant (let h = c.loop-j-test.true in omega arith); known = left_known _ _ _ _ _ _ _ _ (pair_left _ _ _ _ _ _ _ _ _ _ c.loop-j.invariant (let h = c.loop-j-test.true in omega arith)) c.known_in.ensures; room = class_asks _ _ _ _ _ _ _ _ _ _ c.loop-j.invariant (let h = c.loop-j-test.true in omega arith) c.end_in-next.ensures c.write_noted.ensures })
 
-pub write_known-u-requires : goal.write_known-u-requires
-write_known-u-requires c = record { accepted = (accepts_some _ _ _ _ _ _ _ c.loop-i-test.true c.loop-i.invariant.there).0; info_value = left_known _ _ _ _ _ _ _ _ (left_here _ _ _ _ _ _ _ _ _ c.loop-i-test.true c.loop-i.invariant.left) c.known_in-info.ensures; room = front _ (after (left_done _ _ _ _ _ _ _ _ _ (accepts_some _ _ _ _ _ _ _ c.loop-i-test.true c.loop-i.invariant.there).0 (left_here _ _ _ _ _ _ _ _ _ c.loop-i-test.true c.loop-i.invariant.left) c.end_in-next.ensures c.write_noted-p.ensures) (room_as (pairs_some _ _ _ _ _ _ c.loop-i-test.true) c.loop-i.invariant.room)) }
-
-pub overflow_add-j : goal.overflow_add-j
-overflow_add-j c = let h = (left_here _ _ _ _ _ _ _ _ _ c.loop-i-test.true c.loop-i.invariant.left).ends_long in let g = c.well_formed.1.1.1.1.1.1.1.1.0 in search rules
-
-pub loop-i-preserved : goal.loop-i-preserved
-loop-i-preserved c = record {
-  there = accepts_next _ _ _ _ _ _ _ _ c.loop-i-test.true c.loop-i.invariant.there (left_end _ _ _ _ _ _ _ _ _ (accepts_some _ _ _ _ _ _ _ c.loop-i-test.true c.loop-i.invariant.there).0 (left_here _ _ _ _ _ _ _ _ _ c.loop-i-test.true c.loop-i.invariant.left) c.end_in-next.ensures);
-  left = left_next _ _ _ _ _ _ _ _ _ (accepts_some _ _ _ _ _ _ _ c.loop-i-test.true c.loop-i.invariant.there).0 _ c.loop-i-test.true c.loop-i.invariant.left (left_end _ _ _ _ _ _ _ _ _ (accepts_some _ _ _ _ _ _ _ c.loop-i-test.true c.loop-i.invariant.there).0 (left_here _ _ _ _ _ _ _ _ _ c.loop-i-test.true c.loop-i.invariant.left) c.end_in-next.ensures);
-  room = after c.write_known-u.ensures (after (left_done _ _ _ _ _ _ _ _ _ (accepts_some _ _ _ _ _ _ _ c.loop-i-test.true c.loop-i.invariant.there).0 (left_here _ _ _ _ _ _ _ _ _ c.loop-i-test.true c.loop-i.invariant.left) c.end_in-next.ensures c.write_noted-p.ensures) (room_as (pairs_next _ _ _ _ _ _ _ c.loop-i-test.true (left_end _ _ _ _ _ _ _ _ _ (accepts_some _ _ _ _ _ _ _ c.loop-i-test.true c.loop-i.invariant.there).0 (left_here _ _ _ _ _ _ _ _ _ c.loop-i-test.true c.loop-i.invariant.left) c.end_in-next.ensures)) c.loop-i.invariant.room));
-  todo = todo_less c.write_known-u.ensures (todo_less (left_done _ _ _ _ _ _ _ _ _ (accepts_some _ _ _ _ _ _ _ c.loop-i-test.true c.loop-i.invariant.there).0 (left_here _ _ _ _ _ _ _ _ _ c.loop-i-test.true c.loop-i.invariant.left) c.end_in-next.ensures c.write_noted-p.ensures) (todo_same (pairs_next _ _ _ _ _ _ _ c.loop-i-test.true (left_end _ _ _ _ _ _ _ _ _ (accepts_some _ _ _ _ _ _ _ c.loop-i-test.true c.loop-i.invariant.there).0 (left_here _ _ _ _ _ _ _ _ _ c.loop-i-test.true c.loop-i.invariant.left) c.end_in-next.ensures)) c.loop-i.invariant.todo));
-}
+pub loop-j-preserved : goal.loop-j-preserved
+loop-j-preserved c = pairs_again _ _ _ _ _ _ _ _ _ _ c.loop-j.invariant (let h = c.loop-j-test.true in omega arith) c.end_in-next.ensures c.write_noted.ensures (rw (c.requires.root.0, c.requires.root.1) at c.write_known.ensures) (omega arith) (omega arith)
 
 pub returns : goal.returns
-returns c = todo_none (todo_same (pairs_none _ _ _ _ _ _ c.loop-i-test.false) c.loop-i.invariant.todo)
+returns c = pairs_done _ _ _ _ _ _ _ _ _ _ c.loop-j.invariant (let h = c.loop-j-test.false in omega arith)
