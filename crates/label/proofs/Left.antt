@@ -104,8 +104,8 @@ module _ (c ss v : List ℕ) (f : Files) (t : List Scope) (ws es : List ℕ) (i 
         class_asks = fits_front _ (fits_after own_data (fits_as bytes l.rests.room))
 
         pub pairs_again : {x₂ : Writer} {i₁ j₁ : ℕ} → Writes (encode (as_tree (class_at c v f t 1 15 m))) x₁ x₂ → i - 1 ≡ i₁ → j + 1 ≡ j₁ → PairsLeft c ss v f t ws es i₁ j₁ n x₂ all x₀
-        pairs_again {x₂} z g k =
-            subst (λ (a : ℕ). PairsLeft c ss v f t ws es a _ n x₂ all x₀) g (subst (λ (b : ℕ). PairsLeft c ss v f t ws es (i - 1) b n x₂ all x₀) k
+        pairs_again {x₂} {i₁} {j₁} z g k =
+            subst (λ (a : ℕ). PairsLeft c ss v f t ws es a j₁ n x₂ all x₀) g (subst (λ (b : ℕ). PairsLeft c ss v f t ws es (i - 1) b n x₂ all x₀) k
             (record {
               there = accepts_next c ss v f t i m n h l.there next;
               left = left_next c ss v f t ws es j m pair_there i h l.left next;

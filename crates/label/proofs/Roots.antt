@@ -6,6 +6,7 @@ use mathlib.Core.Bool.{true, cond}
 use mathlib.Core.List.{List, [], ◌∷◌, ◌++◌, map, append_assoc}
 use native.Mathlib.Omega.{arith}
 use lib.ListN.{length, get_or, replicate}
+use Rattle.word.specs.Refusal.{fine}
 use Rattle.word.specs.Header.{drt, header, count_at}
 use Rattle.word.specs.declared.writer.Writer.{Writer}
 use Rattle.word.proofs.Laws.{length_header}
@@ -24,18 +25,16 @@ use Rattle.view.specs.declared.Node.TheVariants.{Select as Sel}
 use Rattle.view.proofs.Read.{InBlock, was_read, here_ok, more_ok, none_ok}
 use Rattle.view.proofs.Whole.{Taken, taken, taken_count}
 use Rattle.scope.specs.Scopes.{Open}
-use Rattle.scope.specs.Words.{type_in}
 use Rattle.scope.specs.Table.{open_of, scopes_of, infos_of, blank}
 use Rattle.scope.specs.Blocks.{Tabs, all, tables_named, refs_of, opened}
-use Rattle.scope.specs.Entry.{opened_by, opened_as, tables_in, rows_of, classes_of}
-use Rattle.scope.specs.declared.Opened.{Opened}
+use Rattle.scope.specs.Entry.{type_in, opened_by, tables_in, rows_of, classes_of}
+use Rattle.scope.specs.declared.Scope.{Scope}
 use Rattle.scope.proofs.Named.{BlockOpened, block_opened, names_length}
 use Rattle.resolve.specs.Expr.{Expr, Select}
 use Rattle.resolve.specs.Resolve.{good, resolve, goods, resolve_all, Resolved, select, refused as denied, resolve_view}
 use Rattle.resolve.specs.Claims.{Lent, resolved_by, verdict_of, Narrow, Tabled}
 use Rattle.resolve.specs.declared.Files.{Files}
 use Rattle.resolve.specs.declared.Sums.{Sums}
-use Rattle.resolve.specs.declared.Verdict.TheVariants as verdict
 use Rattle.resolve.proofs.Inversion.{ViewGood, view_good, all_good}
 use Rattle.tree.specs.Tree.{Tree, size, size_pairs, size_select, table_recs, encode, encode_pairs, encode_select, tree_file}
 use Rattle.tree.specs.Trans.{expr_data, expr_class, Class, as_tree, bound, nums}
@@ -57,15 +56,10 @@ use Rattle.label.proofs.Counts.{flat_records, cap_all, test_counted}
 use Rattle.label.proofs.Whole.{flat_append, flat_both, conj_bytes, tests_are, tests_sized}
 
 -- the answer of an accepted view
-is_select : (k : ℕ) (u : Sums) (R : Resolved) → verdict_of k R ≡ verdict.Fine u → (ts : List Ty) × (R ≡ select (select_in R) ts)
+is_select : (k : ℕ) (u : Sums) (R : Resolved) → verdict_of k R ≡ fine u → (ts : List Ty) × (R ≡ select (select_in R) ts)
 unfolding verdict_of select_in
 is_select k u (select s ts) e = (ts, refl)
 is_select k u (denied i p) e = absurd (let z : ◌≡◌ {A = ℕ} 0 1 = cc in omega arith)
-
--- the entry of tables that are there
-found_fine : (ss : List ℕ) (tabs : Tabs) (ts : List TabRef) (o : Opened) → o ≡ opened_by ss tabs → tabs ≡ all ts → o.fine ≡ true
-unfolding opened_by opened_as
-found_fine ss tabs ts o e h = rw (e, h)
 
 refs_of_lem : (tabs : Tabs) (ts : List TabRef) → tabs ≡ all ts → refs_of tabs ≡ ts
 unfolding refs_of
@@ -227,42 +221,39 @@ module _ (c ss v : List ℕ) (f : Files) (w : Viewed c ss v f) (tables values : 
         found = from_is ∙ ap all (sym refs_are);
       }
 
-  module _ (o : Opened) (p : o ≡ opened_by ss (tables_named (tables_from c f.nc f.nc 0) (names_at v 1 tables))) where
-    fine : o.fine ≡ true
-    fine = found_fine ss _ (select_at c v f).from o p from_is
+  module _ (o : Scope) (p : fine o ≡ opened_by ss (tables_named (tables_from c f.nc f.nc 0) (names_at v 1 tables))) where
+    pub entry : BlockOpened c f.nc (tables_named (tables_from c f.nc f.nc 0) (names_at v 1 tables)) o
+    entry = block_opened c f.nc f.tables ss v 1 tables o w.given.starts w.given.cat_few (some_tables, few_tables) p
 
-    pub entry : BlockOpened c f.nc (tables_named (tables_from c f.nc f.nc 0) (names_at v 1 tables)) o.scope
-    entry = block_opened c f.nc f.tables ss v 1 tables o w.given.starts w.given.cat_few (some_tables, few_tables) p fine
-
-    scopes_are : scopes_of c f.nc (replicate 16 o.scope) 1 ≡ opened (select_at c v f).from ∷ []
+    scopes_are : scopes_of c f.nc (replicate 16 o) 1 ≡ opened (select_at c v f).from ∷ []
     unfolding scopes_of
     scopes_are = ap (λ (s : Open). s ∷ []) (entry.opens ∙ ap opened (refs_of_lem _ _ from_is))
 
-    infos_are : infos_of (replicate 16 o.scope) 1 ≡ Fixed 0 ∷ []
+    infos_are : infos_of (replicate 16 o) 1 ≡ Fixed 0 ∷ []
     unfolding infos_of
     infos_are = ap (λ (i : Info). i ∷ []) entry.known
 
-    narrow : (j : ℕ) → j < 1 → Narrow (type_in (get_or (replicate 16 o.scope) j blank))
-    narrow zero l = narrow_entry o.scope entry.untyped
+    narrow : (j : ℕ) → j < 1 → Narrow (type_in (get_or (replicate 16 o) j blank))
+    narrow zero l = narrow_entry o entry.untyped
     narrow (suc j) l = absurd (omega arith)
 
     value_at : (m : ℕ) (e : Exp) (k : ℕ) (x : Expr) (ty : Ty) → parse_value v f.n 15 m ≡ ok e k → resolve cat (opened (select_at c v f).from ∷ []) e ≡ good x ty
-        → Is c ss v f (replicate 16 o.scope) 1 15 m x ty
+        → Is c ss v f (replicate 16 o) 1 15 m x ty
     value_at m e k x ty h r =
-        accept c ss v f (replicate 16 o.scope) 1 15 m
+        accept c ss v f (replicate 16 o) 1 15 m
         (record { lent = lent; sized = refl; not_many = omega arith; is_read = was_read h; here = (here_ok v f.n 15 m (was_read h)).here; left = omega arith; narrow = narrow })
         h (ap (λ (Γ : List Open). resolve cat Γ e) scopes_are ∙ r)
 
-    test_is : Is c ss v f (replicate 16 o.scope) 1 15 (1 + tables) (select_at c v f).test T.Boolean
+    test_is : Is c ss v f (replicate 16 o) 1 15 (1 + tables) (select_at c v f).test T.Boolean
     test_is = value_at (1 + tables) _ _ _ _ parts.first view_is.test
 
-    pub test_there : Accepted c ss v f (replicate 16 o.scope) 1 15 (1 + tables)
+    pub test_there : Accepted c ss v f (replicate 16 o) 1 15 (1 + tables)
     test_there = test_is.accepted
 
-    class_root : (m : ℕ) (x : Expr) → expr_at c v f (replicate 16 o.scope) 1 15 m ≡ x → class_at c v f (replicate 16 o.scope) 1 15 m ≡ expr_class f.k root x
-    class_root m x e = class_of_lem c v f (replicate 16 o.scope) 1 15 m x e ∙ ap (λ (is : List Info). expr_class f.k is x) infos_are
+    class_root : (m : ℕ) (x : Expr) → expr_at c v f (replicate 16 o) 1 15 m ≡ x → class_at c v f (replicate 16 o) 1 15 m ≡ expr_class f.k root x
+    class_root m x e = class_of_lem c v f (replicate 16 o) 1 15 m x e ∙ ap (λ (is : List Info). expr_class f.k is x) infos_are
 
-    data_root : (m : ℕ) (x : Expr) → expr_at c v f (replicate 16 o.scope) 1 15 m ≡ x → data_at c v f (replicate 16 o.scope) 1 15 m ≡ expr_data x
+    data_root : (m : ℕ) (x : Expr) → expr_at c v f (replicate 16 o) 1 15 m ≡ x → data_at c v f (replicate 16 o) 1 15 m ≡ expr_data x
     unfolding data_at
     data_root m x e = ap expr_data e
 
@@ -272,21 +263,21 @@ module _ (c ss v : List ℕ) (f : Files) (w : Viewed c ss v f) (tables values : 
 
     -- the values, one after the other
     record Row (count m : ℕ) (xs : List Expr) : Type 0 where
-      all_there : Accepts c ss v f (replicate 16 o.scope) count m
-      bytes : pair_bytes c v f (replicate 16 o.scope) count m ≡ encode_pairs (pairs_of f.k xs)
-      exprs : exprs_at c v f (replicate 16 o.scope) count m ≡ xs
+      all_there : Accepts c ss v f (replicate 16 o) count m
+      bytes : pair_bytes c v f (replicate 16 o) count m ≡ encode_pairs (pairs_of f.k xs)
+      exprs : exprs_at c v f (replicate 16 o) count m ≡ xs
       number : length xs ≡ count
 
     no_row_lem : (m : ℕ) → Row 0 m []
     unfolding Accepts pair_bytes encode_pairs exprs_at
     no_row_lem m = record { all_there = tt; bytes = refl; exprs = refl; number = refl }
 
-    one_row : (i m : ℕ) (x : Expr) (xs : List Expr) (ty : Ty) → Is c ss v f (replicate 16 o.scope) 1 15 m x ty → Row i (next_at v f 15 m) xs → Row (suc i) m (x ∷ xs)
+    one_row : (i m : ℕ) (x : Expr) (xs : List Expr) (ty : Ty) → Is c ss v f (replicate 16 o) 1 15 m x ty → Row i (next_at v f 15 m) xs → Row (suc i) m (x ∷ xs)
     unfolding Accepts pair_bytes encode_pairs exprs_at
     one_row i m x xs ty h r =
         record {
           all_there = (h.accepted, r.all_there);
-          bytes = ap₂ (λ (a b : List ℕ). a ++ (b ++ pair_bytes c v f (replicate 16 o.scope) i (next_at v f 15 m)))
+          bytes = ap₂ (λ (a b : List ℕ). a ++ (b ++ pair_bytes c v f (replicate 16 o) i (next_at v f 15 m)))
               (ap encode (data_root m x h.expr_as)) (ap (λ (z : Class). encode (as_tree z)) (class_root m x h.expr_as))
               ∙ ap (λ (l : List ℕ). encode (expr_data x) ++ (encode (as_tree (expr_class f.k root x)) ++ l)) r.bytes;
           exprs = ap₂ (λ (y : Expr) (ys : List Expr). y ∷ ys) h.expr_as r.exprs;
@@ -317,10 +308,10 @@ module _ (c ss v : List ℕ) (f : Files) (w : Viewed c ss v f) (tables values : 
     values_row : Row values (next_at v f 15 (1 + tables)) (select_at c v f).values
     values_row = row values (next_at v f 15 (1 + tables)) _ _ _ _ (ap (many (parse_value v f.n 15) values) (next_root (1 + tables) _ _ parts.first) ∙ parts.rest) view_is.values
 
-    pub values_there : {m : ℕ} → m ≡ next_at v f 15 (1 + tables) → Accepts c ss v f (replicate 16 o.scope) values m
-    values_there {m} e = subst (λ (n : ℕ). Accepts c ss v f (replicate 16 o.scope) values n) (sym e) values_row.all_there
+    pub values_there : {m : ℕ} → m ≡ next_at v f 15 (1 + tables) → Accepts c ss v f (replicate 16 o) values m
+    values_there {m} e = subst (λ (n : ℕ). Accepts c ss v f (replicate 16 o) values n) (sym e) values_row.all_there
 
-    own_tables : tables_in (open_of c f.nc o.scope) ≡ map (λ r. r.table) (select_at c v f).from
+    own_tables : tables_in (open_of c f.nc o) ≡ map (λ r. r.table) (select_at c v f).from
     unfolding tables_in
     own_tables = ap tables_in (entry.opens ∙ ap opened (refs_of_lem _ _ from_is))
 
@@ -329,31 +320,31 @@ module _ (c ss v : List ℕ) (f : Files) (w : Viewed c ss v f) (tables values : 
 
     -- what the walk left of the where, and of the values from record m on
     module _ (ws es : List ℕ) (l : LeftView c v f ws es) where
-      view_left : LeftAll f.k (infos_of (replicate 16 o.scope) 1) ws es 0 (expr_at c v f (replicate 16 o.scope) 1 15 (1 + tables) ∷ exprs_at c v f (replicate 16 o.scope) values (next_at v f 15 (1 + tables))) (1 + tables)
+      view_left : LeftAll f.k (infos_of (replicate 16 o) 1) ws es 0 (expr_at c v f (replicate 16 o) 1 15 (1 + tables) ∷ exprs_at c v f (replicate 16 o) values (next_at v f 15 (1 + tables))) (1 + tables)
       unfolding LeftView
       view_left = rw (infos_are, test_is.expr_as, values_row.exprs, ← from_number) l
 
-      pub test_left : Left f.k (infos_of (replicate 16 o.scope) 1) ws es 0 (expr_at c v f (replicate 16 o.scope) 1 15 (1 + tables)) (1 + tables)
+      pub test_left : Left f.k (infos_of (replicate 16 o) 1) ws es 0 (expr_at c v f (replicate 16 o) 1 15 (1 + tables)) (1 + tables)
       unfolding LeftAll
       test_left = view_left.0
 
-      pub values_left : {m : ℕ} → m ≡ next_at v f 15 (1 + tables) → LeftAll f.k (infos_of (replicate 16 o.scope) 1) ws es 1 (exprs_at c v f (replicate 16 o.scope) values m) m
+      pub values_left : {m : ℕ} → m ≡ next_at v f 15 (1 + tables) → LeftAll f.k (infos_of (replicate 16 o) 1) ws es 1 (exprs_at c v f (replicate 16 o) values m) m
       unfolding LeftAll
-      values_left e = rw e (rw (noted_long c ss v f (replicate 16 o.scope) 1 15 (1 + tables) test_there) at view_left.1)
+      values_left e = rw e (rw (noted_long c ss v f (replicate 16 o) 1 15 (1 + tables) test_there) at view_left.1)
 
-    root_tests : (q : ℕ) → test_bytes q (classes_in c f.nc o.scope) (rows_in c f.nc o.scope) 0 tables ≡ flat (table_tests q 0 (select_at c v f).from)
+    root_tests : (q : ℕ) → test_bytes q (classes_in c f.nc o) (rows_in c f.nc o) 0 tables ≡ flat (table_tests q 0 (select_at c v f).from)
     root_tests q =
-        ap (test_bytes q (classes_in c f.nc o.scope) (rows_in c f.nc o.scope) 0) (sym from_number)
-        ∙ tests_are q (classes_in c f.nc o.scope) (rows_in c f.nc o.scope) 0 (select_at c v f).from
+        ap (test_bytes q (classes_in c f.nc o) (rows_in c f.nc o) 0) (sym from_number)
+        ∙ tests_are q (classes_in c f.nc o) (rows_in c f.nc o) 0 (select_at c v f).from
         (ap classes_of own_tables ∙ classes_of_lem (select_at c v f).from) (ap rows_of own_tables ∙ rows_of_lem (select_at c v f).from)
 
     -- THE FILE, in the order in which it is written
     pub file_bytes : (q count : ℕ) {m : ℕ} → count ≡ size_select (tree_at c v f q) → m ≡ next_at v f 15 (1 + tables)
         → tree_file (tree_at c v f q)
         ≡ header drt count ++ (rec_bytes 13 0 tables values 0 ++ (table_recs (nums (refs_at c f.nc v 1 tables))
-        ++ (test_bytes q (classes_in c f.nc o.scope) (rows_in c f.nc o.scope) 0 tables
-        ++ (flat (test q (class_at c v f (replicate 16 o.scope) 1 15 (1 + tables)))
-        ++ (encode (data_at c v f (replicate 16 o.scope) 1 15 (1 + tables)) ++ pair_bytes c v f (replicate 16 o.scope) values m)))))
+        ++ (test_bytes q (classes_in c f.nc o) (rows_in c f.nc o) 0 tables
+        ++ (flat (test q (class_at c v f (replicate 16 o) 1 15 (1 + tables)))
+        ++ (encode (data_at c v f (replicate 16 o) 1 15 (1 + tables)) ++ pair_bytes c v f (replicate 16 o) values m)))))
     unfolding tree_file tree_at
     file_bytes q count {m} e h =
         ap (λ (n : ℕ). header drt n ++ encode_select (translated f.k q (select_at c v f))) (sym e)
@@ -363,27 +354,27 @@ module _ (c ss v : List ℕ) (f : Files) (w : Viewed c ss v f) (tables values : 
         from_number values_row.number
         ∙ ap₂ (λ (a : List TabRef) (b : List ℕ). rec_bytes 13 0 tables values 0 ++ (table_recs (nums a) ++ (b ++ (flat (test q (expr_class f.k root (select_at c v f).test)) ++ (encode (expr_data (select_at c v f).test) ++ encode_pairs (pairs_of f.k (select_at c v f).values))))))
         (sym refs_are) (sym (root_tests q))
-        ∙ ap (λ (l : List ℕ). rec_bytes 13 0 tables values 0 ++ (table_recs (nums (refs_at c f.nc v 1 tables)) ++ (test_bytes q (classes_in c f.nc o.scope) (rows_in c f.nc o.scope) 0 tables ++ l)))
+        ∙ ap (λ (l : List ℕ). rec_bytes 13 0 tables values 0 ++ (table_recs (nums (refs_at c f.nc v 1 tables)) ++ (test_bytes q (classes_in c f.nc o) (rows_in c f.nc o) 0 tables ++ l)))
         (ap₂ (λ (a : Class) (b : Tree). flat (test q a) ++ (encode b ++ encode_pairs (pairs_of f.k (select_at c v f).values)))
         (sym (class_root (1 + tables) _ test_is.expr_as)) (sym (data_root (1 + tables) _ test_is.expr_as))
-        ∙ ap (λ (l : List ℕ). flat (test q (class_at c v f (replicate 16 o.scope) 1 15 (1 + tables))) ++ (encode (data_at c v f (replicate 16 o.scope) 1 15 (1 + tables)) ++ l))
-        (sym values_row.bytes ∙ ap (pair_bytes c v f (replicate 16 o.scope) values) (sym h))))
+        ∙ ap (λ (l : List ℕ). flat (test q (class_at c v f (replicate 16 o) 1 15 (1 + tables))) ++ (encode (data_at c v f (replicate 16 o) 1 15 (1 + tables)) ++ l))
+        (sym values_row.bytes ∙ ap (pair_bytes c v f (replicate 16 o) values) (sym h))))
 
-    root_sizes : (q : ℕ) → test_size q (classes_in c f.nc o.scope) (rows_in c f.nc o.scope) 0 tables ≡ flat_size (table_tests q 0 (select_at c v f).from)
+    root_sizes : (q : ℕ) → test_size q (classes_in c f.nc o) (rows_in c f.nc o) 0 tables ≡ flat_size (table_tests q 0 (select_at c v f).from)
     root_sizes q =
-        ap (test_size q (classes_in c f.nc o.scope) (rows_in c f.nc o.scope) 0) (sym from_number)
-        ∙ tests_sized q (classes_in c f.nc o.scope) (rows_in c f.nc o.scope) 0 (select_at c v f).from
+        ap (test_size q (classes_in c f.nc o) (rows_in c f.nc o) 0) (sym from_number)
+        ∙ tests_sized q (classes_in c f.nc o) (rows_in c f.nc o) 0 (select_at c v f).from
         (ap classes_of own_tables ∙ classes_of_lem (select_at c v f).from) (ap rows_of own_tables ∙ rows_of_lem (select_at c v f).from)
 
     tree_size : (q : ℕ) → size_select (tree_at c v f q)
-        ≡ 1 + (tables + (test_size q (classes_in c f.nc o.scope) (rows_in c f.nc o.scope) 0 tables
+        ≡ 1 + (tables + (test_size q (classes_in c f.nc o) (rows_in c f.nc o) 0 tables
         + (flat_size (test q (expr_class f.k root (select_at c v f).test)) + (size (expr_data (select_at c v f).test) + size_pairs (pairs_of f.k (select_at c v f).values)))))
     unfolding tree_at
     tree_size q = omega (arith, select_size f.k q (select_at c v f), root_sizes q, from_number)
 
     -- HOW MANY RECORDS, as they are counted
     pub size_counted : (q a b z i j k r : ℕ) (u : Sums) → u ≡ sums_of f.k (select_at c v f)
-        → a ≡ capped (test_size q (classes_in c f.nc o.scope) (rows_in c f.nc o.scope) 0 tables)
+        → a ≡ capped (test_size q (classes_in c f.nc o) (rows_in c f.nc o) 0 tables)
         → z ≡ bound_of u.info → b ≡ cond (dominatesb q z) 0 (capped (3 + u.classes))
         → i ≡ capped (1 + tables + a) → j ≡ capped (b + u.values) → k ≡ capped (j + u.pairs) → r ≡ capped (i + k) → r ≡ capped (size_select (tree_at c v f q))
     size_counted q a b z i j k r u e g y h u1 u2 u3 u4 =

@@ -6,6 +6,7 @@ use mathlib.Core.Bool.{Bool, true, false, not}
 use mathlib.Core.List.{List, [], ◌∷◌, ◌++◌, map}
 use native.Mathlib.Omega.{arith}
 use lib.ListN.{length, set}
+use Rattle.word.specs.Refusal.{fine}
 use Rattle.word.specs.Record.{rec_bytes}
 use Rattle.class.specs.Class.{lub_all}
 use Rattle.class.specs.Info.{join_i, choice_i}
@@ -21,13 +22,11 @@ use Rattle.view.specs.declared.Pick.{Pick}
 use Rattle.view.specs.declared.Node.{Node}
 use Rattle.view.specs.declared.Node.TheVariants.{Const, Binop, Not, If, Let, Col, Classof}
 use Rattle.scope.specs.Scopes.{find}
-use Rattle.scope.specs.Words.{count_in}
 use Rattle.scope.specs.Table.{scopes_of, infos_of, found_of, open_of}
 use Rattle.scope.specs.Blocks.{tables_named}
-use Rattle.scope.specs.Entry.{local_scope, opened_by, tables_in, rows_of, classes_of}
+use Rattle.scope.specs.Entry.{count_in, local_scope, opened_by, tables_in, rows_of, classes_of}
 use Rattle.scope.specs.declared.Scope.{Scope}
 use Rattle.scope.specs.declared.Found.{Found}
-use Rattle.scope.specs.declared.Opened.{Opened}
 use Rattle.resolve.specs.Infos.{table_class}
 use Rattle.resolve.specs.Claims.{block_node}
 use Rattle.resolve.specs.declared.Asked.{Asked}
@@ -289,19 +288,19 @@ module _ {c ss v : List ℕ} {f : Files} {t : List Scope} {deep d at : ℕ} (w :
       bindc_bytes {a} b i = ap (λ (z : Class). encode (as_tree z)) let_join ∙ let_open _ _ _ a b.upper (sym (class_known k) ∙ i) (body_open b)
 
   -- A BLOCK, by what is asked of it
-  module _ (asked : Asked) (count : ℕ) (g : node_at v at ≡ block_node asked count) {o : Opened}
-      (p : o ≡ opened_by ss (tables_named (tables_from c f.nc f.nc 0) (names_at v (at + 1) count))) {u : List Scope} (q : u ≡ set t deep o.scope) where
-    pub opened_there : BlockIs c ss v f t u deep d at count o.scope
+  module _ (asked : Asked) (count : ℕ) (g : node_at v at ≡ block_node asked count) {o : Scope}
+      (p : fine o ≡ opened_by ss (tables_named (tables_from c f.nc f.nc 0) (names_at v (at + 1) count))) {u : List Scope} (q : u ≡ set t deep o) where
+    pub opened_there : BlockIs c ss v f t u deep d at count o
     opened_there = block_is c ss v f t deep d at w asked count g o p u q
 
     abbrev refs : List TabRef
     refs = refs_at c f.nc v (at + 1) count
 
-    own_tables : tables_in (open_of c f.nc o.scope) ≡ map (λ r. r.table) (refs_at c f.nc v (at + 1) count)
+    own_tables : tables_in (open_of c f.nc o) ≡ map (λ r. r.table) (refs_at c f.nc v (at + 1) count)
     unfolding tables_in refs_at
     own_tables = ap tables_in opened_there.entry.opens
 
-    refs_count : count_in o.scope ≡ length (refs_at c f.nc v (at + 1) count)
+    refs_count : count_in o ≡ length (refs_at c f.nc v (at + 1) count)
     unfolding refs_at
     refs_count = opened_there.entry.counted
 
@@ -313,10 +312,10 @@ module _ {c ss v : List ℕ} {f : Files} {t : List Scope} {deep d at : ℕ} (w :
     map_classes [] = refl
     map_classes (r ∷ rs) = ap (λ (xs : List ℕ). r.table.tclass ∷ xs) (map_classes rs)
 
-    rows_are : rows_in c f.nc o.scope ≡ map (λ r. r.table.row) (refs_at c f.nc v (at + 1) count)
+    rows_are : rows_in c f.nc o ≡ map (λ r. r.table.row) (refs_at c f.nc v (at + 1) count)
     rows_are = ap rows_of own_tables ∙ map_twice (refs_at c f.nc v (at + 1) count)
 
-    pub rowed : Rowed c f.nc o.scope
+    pub rowed : Rowed c f.nc o
     rowed =
         let b = opened_there in
         let n = refs_count in
@@ -334,14 +333,14 @@ module _ {c ss v : List ℕ} {f : Files} {t : List Scope} {deep d at : ℕ} (w :
     pub value_of : Valued asked c ss v f u (deep + 1) (d - 1) (at + 1 + count)
     value_of = record { value = λ h e. (single_is c ss v f t deep d at w asked count g o p u q h _ e refl).value }
 
-    inside : join_all (row_classes 0 refs ++ (class_at c v f u (deep + 1) (d - 1) (at + 1 + count) ∷ [])) ≡ at_where c v f u (deep + 1) (d - 1) (at + 1 + count) o.scope
+    inside : join_all (row_classes 0 refs ++ (class_at c v f u (deep + 1) (d - 1) (at + 1 + count) ∷ [])) ≡ at_where c v f u (deep + 1) (d - 1) (at + 1 + count) o
     unfolding at_where
-    inside = rows_where (rows_in c f.nc o.scope) refs rows_are (count_in o.scope) refs_count rowed.some _
+    inside = rows_where (rows_in c f.nc o) refs rows_are (count_in o) refs_count rowed.some _
 
     inside_value : join_all (row_classes 0 refs ++ (class_at c v f u (deep + 1) (d - 1) (at + 1 + count) ∷ choice (data_at c v f u (deep + 1) (d - 1) (at + 1 + count)) (class_at c v f u (deep + 1) (d - 1) (next_at v f (d - 1) (at + 1 + count))) (fixed 0) ∷ []))
-        ≡ at_valued c v f u (deep + 1) (d - 1) (at + 1 + count) o.scope
+        ≡ at_valued c v f u (deep + 1) (d - 1) (at + 1 + count) o
     unfolding at_valued at_where at_kept
-    inside_value = rows_value (rows_in c f.nc o.scope) refs rows_are (count_in o.scope) refs_count rowed.some _ _
+    inside_value = rows_value (rows_in c f.nc o) refs rows_are (count_in o) refs_count rowed.some _ _
 
     exists_block : (h : Fold) → asked ≡ ask.Rows h → class_at c v f t deep d at ≡ block_class refs (class_at c v f u (deep + 1) (d - 1) (at + 1 + count) ∷ [])
     exists_block h e = exists_class c v f t deep d at u (at + 1 + count) h refs (exists_is c ss v f t deep d at w asked count g o p u q h e).is opened_there.infos
@@ -354,21 +353,21 @@ module _ {c ss v : List ℕ} {f : Files} {t : List Scope} {deep d at : ℕ} (w :
     record AsBlock : Type 0 where
       us : List Class
       whole : class_at c v f t deep d at ≡ block_class refs us
-      row : join_all (row_classes 0 refs ++ us) ≡ at_row asked c v f u (deep + 1) (d - 1) (at + 1 + count) o.scope
+      row : join_all (row_classes 0 refs ++ us) ≡ at_row asked c v f u (deep + 1) (d - 1) (at + 1 + count) o
 
     as_block : (s : Asked) → asked ≡ s → AsBlock
     unfolding at_row
-    as_block (ask.Rows h) e = record { us = _; whole = exists_block h e; row = inside ∙ ap (λ (z : Asked). at_row z c v f u (deep + 1) (d - 1) (at + 1 + count) o.scope) (sym e) }
+    as_block (ask.Rows h) e = record { us = _; whole = exists_block h e; row = inside ∙ ap (λ (z : Asked). at_row z c v f u (deep + 1) (d - 1) (at + 1 + count) o) (sym e) }
     as_block (ask.Values h) e =
         record {
           us = _;
           whole = single_block h e;
-          row = inside_value ∙ ap (λ (z : Asked). at_row z c v f u (deep + 1) (d - 1) (at + 1 + count) o.scope) (sym e);
+          row = inside_value ∙ ap (λ (z : Asked). at_row z c v f u (deep + 1) (d - 1) (at + 1 + count) o) (sym e);
         }
 
-    pub aggregate_bytes : {k : ℕ} → k ≡ lub_all (classes_of (tables_in (open_of c f.nc o.scope))) → encode (as_tree (class_at c v f t deep d at))
+    pub aggregate_bytes : {k : ℕ} → k ≡ lub_all (classes_of (tables_in (open_of c f.nc o))) → encode (as_tree (class_at c v f t deep d at))
         ≡ rec_bytes 25 0 0 0 0 ++ (rec_bytes 27 0 count 0 0 ++ (table_recs (nums (refs_at c f.nc v (at + 1) count))
-        ++ (encode (as_tree (at_row asked c v f u (deep + 1) (d - 1) (at + 1 + count) o.scope)) ++ rec_bytes 6 0 k 0 0)))
+        ++ (encode (as_tree (at_row asked c v f u (deep + 1) (d - 1) (at + 1 + count) o)) ++ rec_bytes 6 0 k 0 0)))
     aggregate_bytes {k} e =
         let b = as_block asked refl in
         let n : length (nums refs) ≡ count = nums_number refs ∙ opened_there.counted in

@@ -4,9 +4,8 @@ use Rattle.std.specs.Prelude.{ℕ, zero, suc, ◌+◌, ◌*◌, ◌-◌, ◌≤�
 use Rattle.class.specs.declared.Info.{Info}
 use Rattle.class.specs.declared.Info.TheVariants.{Fixed}
 use Rattle.view.specs.declared.Pick.{Pick}
-use Rattle.scope.specs.Words.{count_in}
 use Rattle.scope.specs.Table.{open_of}
-use Rattle.scope.specs.Entry.{tables_in, rows_of, Among}
+use Rattle.scope.specs.Entry.{count_in, tables_in, rows_of, Among}
 use Rattle.scope.specs.declared.Scope.{Scope}
 use Rattle.tree.specs.Tree.{tree_row_class}
 use Rattle.tree.specs.Trans.{Class, fixed, by_info, join, choice}

@@ -1,6 +1,7 @@
 -- SELECT as its writer goes through it: the view's tree, its tests one before the other, its values one after the other.
 -- Assumes nothing.
 use Rattle.std.specs.Prelude.{ℕ, zero, suc, ◌+◌, ◌≡◌, List, [], ◌∷◌, ◌++◌, get_or}
+use Rattle.word.specs.Refusal.{fine}
 use Rattle.word.specs.Record.{rec_bytes}
 use Rattle.class.specs.declared.Info.{Info}
 use Rattle.cell.specs.declared.Type.TheVariants as T
@@ -16,7 +17,6 @@ use Rattle.resolve.specs.Resolve.{Resolved, select, refused}
 use Rattle.resolve.specs.Claims.{resolved_by, verdict_of, Accepted as Given}
 use Rattle.resolve.specs.declared.Files.{Files}
 use Rattle.resolve.specs.declared.Sums.{Sums}
-use Rattle.resolve.specs.declared.Verdict.TheVariants as verdict
 use Rattle.tree.specs.Tree.{Tree, SelectTree, size, encode}
 use Rattle.tree.specs.Trans.{fixed, as_tree}
 use Rattle.tree.specs.Select.{test, translated}
@@ -40,7 +40,7 @@ tree_at c v f q = translated f.k q (select_at c v f)
 pub record Viewed (c ss v : List ℕ) (f : Files) : Type 0 where
   pub given : Given c ss v f
   pub sums : Sums
-  pub fine : verdict_of f.k (resolved_by (tables_from c f.nc f.nc 0) (parse_view v)) ≡ verdict.Fine sums
+  pub fine : verdict_of f.k (resolved_by (tables_from c f.nc f.nc 0) (parse_view v)) ≡ fine sums
 
 -- so many values in a row are accepted, in the scope of SELECT's block; their bytes
 unfoldable pub Accepts : List ℕ → List ℕ → List ℕ → Files → List Scope → ℕ → ℕ → Type 0

@@ -10,7 +10,7 @@ ghost use Rattle.word.specs.Writer.{Writes};
 ghost use Rattle.word.specs.Record.{rec_bytes};
 ghost use Rattle.view.specs.Record.{node_at};
 ghost use Rattle.view.specs.declared.Node.TheVariants.{If, Let};
-ghost use Rattle.scope.specs.Words.{count_in};
+ghost use Rattle.scope.specs.Entry.{count_in};
 ghost use Rattle.resolve.specs.Claims.{block_node};
 ghost use Rattle.tree.specs.Tree.{rec_of, encode};
 ghost use Rattle.tree.specs.Trans.{as_tree, choice};
@@ -28,8 +28,7 @@ fn last_of(s: scope::Scope) -> usize
     requires { (1 ≤ count_in s) × (count_in s ≤ 4) }
     ensures { (result ≡ count_in s - 1) × (result ≤ 4) }
 {
-    let count = scope::count_in(s);
-    (count - 1) as usize
+    scope::tables_in(s) - 1
 }
 
 // The class of what COL finds.
@@ -38,14 +37,19 @@ fn cell_record(h: scope::Found) -> Record
     ensures { rec_of result ≡ encode (cell_tree h) }
 {
     match h {
-        scope::Found::Column(a, b, c, _, _, _) => Record {
-            a,
-            b,
-            c,
+        scope::Found::Column {
+            outward,
+            table,
+            column,
+            ..
+        } => Record {
+            a: outward,
+            b: table,
+            c: column,
             ..kinds::CELL_CLASS
         },
-        scope::Found::Local(a, _, _) => Record {
-            a,
+        scope::Found::Local { outward, .. } => Record {
+            a: outward,
             ..kinds::LOCAL_CLASS
         },
         _ => kinds::CLASS,
@@ -58,9 +62,9 @@ fn row_record(h: scope::Found) -> Record
     ensures { rec_of result ≡ encode (row_tree h) }
 {
     match h {
-        scope::Found::Column(a, b, _, _, _, _) => Record {
-            a,
-            b,
+        scope::Found::Column { outward, table, .. } => Record {
+            a: outward,
+            b: table,
             ..kinds::ROW_CLASS
         },
         _ => kinds::CLASS,
@@ -89,11 +93,13 @@ fn write_open(level: &Level, at: usize, writer: &mut Writer, pad: &mut [u64; 102
     requires room { Fits (encode (as_tree (class_in level.now at))) writer.old }
     ensures { Writes (encode (as_tree (class_in level.now at))) writer.old writer.new }
 {
+    let source = level.source;
+    let held = level.scopes;
     let down = Level {
         depth: level.depth - 1,
         ..*level
     };
-    match view::node_at(level.view, at) {
+    match view::node_at(source.view, at) {
         view::Node::Binop(_) => write_binop(level, at, writer, pad),
         view::Node::Not => write_c(&down, at + 1, writer, pad),
         view::Node::If => write_if(level, at, writer, pad),
@@ -104,11 +110,11 @@ fn write_open(level: &Level, at: usize, writer: &mut Writer, pad: &mut [u64; 102
             write_block(level, at, a, resolve::Asked::Values(g), writer, pad)
         }
         view::Node::Col(name, q) => {
-            let h = scope::find(*level.scopes, level.cat, level.files.nc, level.deep, name, q);
+            let h = scope::find(held, source.cat, source.files.nc, level.deep, name, q);
             writer.put(cell_record(h))
         }
         view::Node::Classof(name, q) => {
-            let h = scope::find(*level.scopes, level.cat, level.files.nc, level.deep, name, q);
+            let h = scope::find(held, source.cat, source.files.nc, level.deep, name, q);
             writer.put(row_record(h))
         }
         view::Node::Let(name) => write_let(level, at, name, writer, pad),
@@ -121,7 +127,7 @@ fn write_open(level: &Level, at: usize, writer: &mut Writer, pad: &mut [u64; 102
 fn write_binop(level: &Level, at: usize, writer: &mut Writer, pad: &mut [u64; 1024])
     requires accepted { AcceptedIn level.now at }
     requires tree { IsTree (class_in level.now at) }
-    requires kind { IsBinop level.now.view.now at }
+    requires kind { IsBinop level.now.source.now.view.now at }
     requires room { Fits (encode (as_tree (class_in level.now at))) writer.old }
     ensures { Writes (encode (as_tree (class_in level.now at))) writer.old writer.new }
 {
@@ -161,7 +167,7 @@ fn write_lub(
 fn write_if(level: &Level, at: usize, writer: &mut Writer, pad: &mut [u64; 1024])
     requires accepted { AcceptedIn level.now at }
     requires tree { IsTree (class_in level.now at) }
-    requires kind { node_at level.now.view.now at ≡ If }
+    requires kind { node_at level.now.source.now.view.now at ≡ If }
     requires room { Fits (encode (as_tree (class_in level.now at))) writer.old }
     ensures { Writes (encode (as_tree (class_in level.now at))) writer.old writer.new }
 {
@@ -219,7 +225,7 @@ fn write_choice(
 fn write_let(level: &Level, at: usize, name: u16, writer: &mut Writer, pad: &mut [u64; 1024])
     requires accepted { AcceptedIn level.now at }
     requires tree { IsTree (class_in level.now at) }
-    requires kind { node_at level.now.view.now at ≡ Let name }
+    requires kind { node_at level.now.source.now.view.now at ≡ Let name }
     requires room { Fits (encode (as_tree (class_in level.now at))) writer.old }
     ensures { Writes (encode (as_tree (class_in level.now at))) writer.old writer.new }
 {
@@ -262,15 +268,14 @@ fn write_block(
     pad: &mut [u64; 1024],
 )
     requires accepted { AcceptedIn level.now at }
-    requires block { node_at level.now.view.now at ≡ block_node asked count }
+    requires block { node_at level.now.source.now.view.now at ≡ block_node asked count }
     requires room { Fits (encode (as_tree (class_in level.now at))) writer.old }
     ensures { Writes (encode (as_tree (class_in level.now at))) writer.old writer.new }
 {
     let first = at + 1;
     let tables = count as usize;
-    let files = level.files;
-    let o = scope::open_block(level.cat, files.nc, level.starts, files.tables, level.view, first, tables);
-    let s = o.scope;
+    let source = level.source;
+    let s = tree::block_scope(source, first, tables);
     let scopes = scope::pushed(*level.scopes, level.deep, s);
     let inner = Level {
         scopes: &scopes,
@@ -278,11 +283,11 @@ fn write_block(
         depth: level.depth - 1,
         ..*level
     };
-    let k = scope::block_class(s, level.cat, files.nc);
+    let k = scope::block_class(s, source.cat, source.files.nc);
     let test = first + tables;
     writer.put(kinds::LUB);
     writer.put(Record { a: count, ..kinds::AGG });
-    tree::table_recs(level, first, tables, writer);
+    tree::table_recs(source, first, tables, writer);
     write_at_row(&inner, test, s, asked, writer, pad);
     writer.put(Record { a: k, ..kinds::CLASS });
 }
@@ -324,9 +329,10 @@ fn write_valued(
     requires room { Fits (encode (as_tree (valued_in level.now at s))) writer.old }
     ensures { Writes (encode (as_tree (valued_in level.now at s))) writer.old writer.new }
 {
+    let source = level.source;
     let x = known_at(level, at, pad);
     let y = known_at(level, x.next, pad);
-    let rows = rows::info(s, level.cat, level.files.nc, last_of(s));
+    let rows = rows::info(s, source.cat, source.files.nc, last_of(s));
     let i = rows.join(x.info);
     let h = i.join(y.info.choose(class::Info::Fixed(0)));
     match h {
@@ -361,9 +367,10 @@ fn write_where(
     requires room { Fits (encode (as_tree (where_in level.now at s))) writer.old }
     ensures { Writes (encode (as_tree (where_in level.now at s))) writer.old writer.new }
 {
+    let source = level.source;
     let x = known_at(level, at, pad);
     let last = last_of(s);
-    let i = rows::info(s, level.cat, level.files.nc, last);
+    let i = rows::info(s, source.cat, source.files.nc, last);
     let h = i.join(x.info);
     match h {
         class::Info::Fixed(k) => writer.put(Record { a: k, ..kinds::CLASS }),
@@ -372,10 +379,10 @@ fn write_where(
             match i {
                 class::Info::Fixed(_) => {
                     write_c(level, at, writer, pad);
-                    rows::write(s, level.cat, level.files.nc, last, writer);
+                    rows::write(s, source.cat, source.files.nc, last, writer);
                 }
                 class::Info::Bound(_) => {
-                    rows::write(s, level.cat, level.files.nc, last, writer);
+                    rows::write(s, source.cat, source.files.nc, last, writer);
                     write_c(level, at, writer, pad);
                 }
             }

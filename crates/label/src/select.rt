@@ -6,15 +6,14 @@ ghost use Rattle.resolve.specs.Sizes.{capped, sums_of};
 ghost use Rattle.word.specs.Buffer.{Wrote, Room};
 ghost use Rattle.word.specs.Writer.{Writes};
 ghost use Rattle.scope.specs.Entry.{Among};
-ghost use Rattle.scope.specs.Table.{infos_of};
 ghost use Rattle.tree.specs.Tree.{encode, tree_file, size_select};
 ghost use Rattle.tree.specs.Trans.{fixed, as_tree, info_of};
 ghost use Rattle.tree.specs.Select.{test};
 ghost use Rattle.tree.specs.Levels.{AcceptedIn, Fits};
-ghost use Rattle.label.specs.Left.{end_in, known_in, LeftAll, LeftView, exprs_at};
-ghost use Rattle.label.specs.Levels.{class_in};
+ghost use Rattle.label.specs.Left.{end_in, known_in};
+ghost use Rattle.label.specs.Levels.{class_in, ViewedIn, select_in, tree_in, LeftViewIn, AcceptsIn, LeftAllIn, pairs_in};
 ghost use Rattle.label.specs.Rows.{row_item, rows_in};
-ghost use Rattle.label.specs.Whole.{Viewed, Accepts, select_at, tree_at, pair_bytes, flat, test_bytes, test_size, classes_in, dom_bytes};
+ghost use Rattle.label.specs.Whole.{flat, test_bytes, test_size, classes_in, dom_bytes};
 
 use crate::{rows, write_open};
 use tree::{kinds, Level};
@@ -147,71 +146,84 @@ fn write_pairs(
     pad: &mut [u64; 1024],
 )
     requires root { (level.now.deep ≡ 1) × (level.now.depth ≡ 15) }
-    requires accepts { Accepts level.now.cat.now level.now.starts.now level.now.view.now level.now.files level.now.scopes.now count at }
-    requires left_all { LeftAll level.now.files.k (infos_of level.now.scopes.now 1) notes.now ends.now 1 (exprs_at level.now.cat.now level.now.view.now level.now.files level.now.scopes.now count at) at }
-    requires room { Fits (pair_bytes level.now.cat.now level.now.view.now level.now.files level.now.scopes.now count at) writer.old }
-    ensures { Writes (pair_bytes level.now.cat.now level.now.view.now level.now.files level.now.scopes.now count at) writer.old writer.new }
+    requires accepts { AcceptsIn level.now count at }
+    requires left_all { LeftAllIn level.now notes.now ends.now count at }
+    requires room { Fits (pairs_in level.now count at) writer.old }
+    ensures { Writes (pairs_in level.now count at) writer.old writer.new }
 {
+    let source = level.source;
     let mut m = at;
     for j in 0..count {
         let end = ends[1 + j];
         let next = end_in(end);
-        tree::write_noted(level.view, notes, m, next, writer);
+        tree::write_noted(source.view, notes, m, next, writer);
         write_known(level, m, known_in(end), writer, pad);
         m = next;
     }
 }
 
-/// The whole tree of an accepted view, under clearance q, with the notes and ends that were left of it, into a buffer that has room for its `count` records.
-/// Returns the place after it.
-pub fn write_tree(
-    cat: &[u8],
-    starts: &[u16; 32],
-    view: &[u8],
-    f: resolve::Files,
+// The tree's file; its count of records is known, and there is room.
+fn write_file(
+    source: &resolve::Source,
     q: u16,
     count: u16,
     notes: &[u64],
     ends: &[u64],
-    out: &mut [u8],
-) -> usize
-    requires viewed { Viewed cat.now starts.now view.now f }
-    requires left_view { LeftView cat.now view.now f notes.now ends.now }
-    requires count_value { count ≡ size_select (tree_at cat.now view.now f q) }
-    requires room { Room out.old 0 (tree_file (tree_at cat.now view.now f q)) }
-    ensures { Wrote out.old 0 (tree_file (tree_at cat.now view.now f q)) out.new result }
+    writer: &mut Writer,
+)
+    requires viewed { ViewedIn source.now }
+    requires left_view { LeftViewIn source.now notes.now ends.now }
+    requires count_value { count ≡ size_select (tree_in source.now q) }
+    requires room { Fits (tree_file (tree_in source.now q)) writer.old }
+    ensures { Writes (tree_file (tree_in source.now q)) writer.old writer.new }
 {
+    let view = source.view;
     let view::Node::Select(tables, values) = view::node_at(view, 0) else {
-        return 0;
+        return;
     };
     let m = tables as usize;
-    let o = scope::open_block(cat, f.nc, starts, f.tables, view, 1, m);
-    let s = o.scope;
+    let s = tree::block_scope(source, 1, m);
     let scopes = [s; 16];
     let level = Level {
-        cat: &*cat,
-        starts: &*starts,
-        view: &*view,
-        files: f,
+        source: &*source,
         scopes: &scopes,
         deep: 1,
         depth: 15,
     };
     let mut pad = [0u64; 1024];
-    let mut writer = Writer { out, at: 0 };
     writer.header(b"DRT\0", count);
     writer.put(Record {
         a: tables,
         b: values,
         ..kinds::SELECT
     });
-    tree::table_recs(&level, 1, m, &mut writer);
-    write_tests(s, cat, f.nc, q, m, &mut writer);
+    tree::table_recs(source, 1, m, writer);
+    write_tests(s, source.cat, source.files.nc, q, m, writer);
     let end = ends[0];
     let first = end_in(end);
-    write_where_test(&level, 1 + m, known_in(end), q, &mut writer, &mut pad);
-    tree::write_noted(view, notes, 1 + m, first, &mut writer);
-    write_pairs(&level, first, values as usize, notes, ends, &mut writer, &mut pad);
+    write_where_test(&level, 1 + m, known_in(end), q, writer, &mut pad);
+    tree::write_noted(view, notes, 1 + m, first, writer);
+    write_pairs(&level, first, values as usize, notes, ends, writer, &mut pad);
+}
+
+/// The whole tree of an accepted view, under clearance q, with the notes and ends that were left of it, into a buffer that has room for its `count` records.
+/// Returns the place after it.
+pub fn write_tree(
+    source: &resolve::Source,
+    q: u16,
+    count: u16,
+    notes: &[u64],
+    ends: &[u64],
+    out: &mut [u8],
+) -> usize
+    requires viewed { ViewedIn source.now }
+    requires left_view { LeftViewIn source.now notes.now ends.now }
+    requires count_value { count ≡ size_select (tree_in source.now q) }
+    requires room { Room out.old 0 (tree_file (tree_in source.now q)) }
+    ensures { Wrote out.old 0 (tree_file (tree_in source.now q)) out.new result }
+{
+    let mut writer = Writer { out, at: 0 };
+    write_file(source, q, count, notes, ends, &mut writer);
     writer.at
 }
 
@@ -247,24 +259,18 @@ fn tests_size(s: scope::Scope, cat: &[u8], n: usize, q: u16, j: usize, left: usi
 }
 
 /// How many records the tree of an accepted view takes under clearance q, stopped just above 8,190: its tables, the tests, and what its parts were found to take.
-pub fn measure(
-    cat: &[u8],
-    starts: &[u16; 32],
-    view: &[u8],
-    f: resolve::Files,
-    q: u16,
-    sums: resolve::Sums,
-) -> usize
-    requires viewed { Viewed cat.now starts.now view.now f }
-    requires sums_value { sums ≡ sums_of f.k (select_at cat.now view.now f) }
-    ensures { result ≡ capped (size_select (tree_at cat.now view.now f q)) }
+pub fn measure(source: &resolve::Source, q: u16, sums: resolve::Sums) -> usize
+    requires viewed { ViewedIn source.now }
+    requires sums_value { sums ≡ sums_of source.now.files.k (select_in source.now) }
+    ensures { result ≡ capped (size_select (tree_in source.now q)) }
 {
+    let view = source.view;
     let view::Node::Select(tables, _) = view::node_at(view, 0) else {
         return 0;
     };
     let m = tables as usize;
-    let o = scope::open_block(cat, f.nc, starts, f.tables, view, 1, m);
-    let a = tests_size(o.scope, cat, f.nc, q, 0, m);
+    let s = tree::block_scope(source, 1, m);
+    let a = tests_size(s, source.cat, source.files.nc, q, 0, m);
     let b = test_size(q, sums.info.bound(), sums.classes);
     plus(plus(1 + m, a), plus(plus(b, sums.values), sums.pairs))
 }

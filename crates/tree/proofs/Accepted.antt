@@ -6,6 +6,7 @@ use mathlib.Core.Bool.{true}
 use mathlib.Core.List.{List, ◌∷◌}
 use native.Mathlib.Omega.{arith}
 use lib.ListN.{length, set}
+use Rattle.word.specs.Refusal.{fine}
 use Rattle.class.specs.declared.Info.TheVariants.{Fixed}
 use Rattle.cell.specs.Res.{done}
 use Rattle.cell.specs.Types.{digits_of, binop_type}
@@ -23,15 +24,13 @@ use Rattle.view.proofs.Read as read
 use Rattle.view.proofs.Read.{was_read, next_is}
 use Rattle.view.proofs.Says.{exists_few, single_few}
 use Rattle.scope.specs.Scopes.{Open, local, find}
-use Rattle.scope.specs.Words.{type_in}
 use Rattle.scope.specs.Table.{scopes_of, infos_of}
 use Rattle.scope.specs.Blocks.{Tabs, all, tables_named, refs_of, opened}
-use Rattle.scope.specs.Entry.{local_scope, opened_as, opened_by}
+use Rattle.scope.specs.Entry.{type_in, local_scope, opened_by}
 use Rattle.scope.specs.declared.Scope.{Scope}
-use Rattle.scope.specs.declared.Opened.{Opened}
 use Rattle.scope.proofs.Locals.{local_type}
 use Rattle.scope.proofs.Pushes.{push_long, local_scopes, local_infos, block_scopes, block_infos}
-use Rattle.scope.proofs.Named.{BlockOpened, block_opened, names_length}
+use Rattle.scope.proofs.Named.{BlockOpened, block_opened, block_fine, names_length}
 use Rattle.resolve.specs.Expr.{Expr}
 use Rattle.resolve.specs.Expr as expr
 use Rattle.resolve.specs.Totals.{fold_type}
@@ -119,11 +118,6 @@ pub record SingleIs (c ss v : List ℕ) (f : Files) (t u : List Scope) (deep d a
       ≡ expr.Expr.single h (refs_at c f.nc v (at + 1) count) (expr_at c v f u (deep + 1) (d - 1) (at + 1 + count)) (expr_at c v f u (deep + 1) (d - 1) m)
   pub next : next_at v f (d - 1) m ≡ next_at v f d at
   pub type_as : type_at c v f u (deep + 1) (d - 1) m ≡ type_at c v f t deep d at
-
--- the entry of a block whose tables are there
-found_fine : (ss : List ℕ) (tabs : Tabs) (ts : List TabRef) (o : Opened) → o ≡ opened_by ss tabs → tabs ≡ all ts → o.fine ≡ true
-unfolding opened_by opened_as
-found_fine ss tabs ts o e h = rw (e, h)
 
 module _ (c ss v : List ℕ) (f : Files) (t : List Scope) (deep d at : ℕ) (w : Accepted c ss v f t deep d at) where
   -- the rules' answer on what was read
@@ -266,9 +260,8 @@ module _ (c ss v : List ℕ) (f : Files) (t : List Scope) (deep d at : ℕ) (w :
           type_as = y.type_as;
         }
 
-  -- a block's node, o its entry as the pass opened it, u the table with its scope open
-  module _ (asked : Asked) (count : ℕ) (g : node_at v at ≡ block_node asked count) (o : Opened)
-      (p : o ≡ opened_by ss (tables_named (tables_from c f.nc f.nc 0) (names_at v (at + 1) count))) (u : List Scope) (q : u ≡ set t deep o.scope) where
+  -- a block's node
+  module _ (asked : Asked) (count : ℕ) (g : node_at v at ≡ block_node asked count) where
     exists_node : (h : Fold) → asked ≡ ask.Rows h → node_at v at ≡ Exists count h
     unfolding block_node
     exists_node h e = g ∙ rw e
@@ -289,72 +282,98 @@ module _ (c ss v : List ℕ) (f : Files) (t : List Scope) (deep d at : ℕ) (w :
     unfolding refs_at refs_of
     refs_are ts h = rw h
 
-    -- a part in the block's scope
-    part : (ts : List TabRef) → tables_named (tables_from c f.nc f.nc 0) (names_at v (at + 1) count) ≡ all ts → (m : ℕ) {x : Exp} {k : ℕ} {y : Expr} {r : Ty}
-        → parse_value v f.n (d - 1) m ≡ ok x k → resolve (tables_from c f.nc f.nc 0) (opened ts ∷ scopes_of c f.nc t deep) x ≡ good y r → Is c ss v f u (deep + 1) (d - 1) m y r
-    unfolding refs_of
-    part ts h m i j =
-        let k = found_fine ss _ ts o p h in
-        let l : deep < 16 = omega (arith, w.ready.left, w.ready.not_many) in
-        let b = block_opened c f.nc f.tables ss v (at + 1) count o w.ready.lent.starts w.ready.lent.cat_few (few asked refl) p k in
-        inner m u o.scope q (narrow_entry o.scope b.untyped) _
-        (block_scopes c f.nc t u deep o.scope q l w.ready.sized _ b ∙ ap (λ (z : Tabs). opened (refs_of z) ∷ scopes_of c f.nc t deep) h) i j
-
-    made : (ts : List TabRef) → tables_named (tables_from c f.nc f.nc 0) (names_at v (at + 1) count) ≡ all ts → Accepted c ss v f u (deep + 1) (d - 1) (at + 1 + count)
-        → BlockIs c ss v f t u deep d at count o.scope
+    tabled_by : (ts : List TabRef) → tables_named (tables_from c f.nc f.nc 0) (names_at v (at + 1) count) ≡ all ts → Tabled c f.nc ss f.tables v (at + 1) count
     unfolding refs_at
-    made ts h a =
-        let k = found_fine ss _ ts o p h in
-        let l : deep < 16 = omega (arith, w.ready.left, w.ready.not_many) in
-        let b = block_opened c f.nc f.tables ss v (at + 1) count o w.ready.lent.starts w.ready.lent.cat_few (few asked refl) p k in
+    tabled_by ts h =
         let n = within asked refl in
         record {
-          tabled = record {
-            cat_long = w.ready.lent.cat_long;
-            starts = w.ready.lent.starts;
-            view_long = omega (arith, w.ready.lent.view_long);
-            few = (few asked refl).1;
-            found = h ∙ ap all (sym (refs_are ts h));
-          };
-          some = (few asked refl).0;
-          counted = ap length (refs_are ts h) ∙ names_length _ v (at + 1) count ts h;
-          entry = b;
-          test = a;
-          infos = block_infos c f.nc t u deep o.scope q l w.ready.sized _ b;
+          cat_long = w.ready.lent.cat_long;
+          starts = w.ready.lent.starts;
+          view_long = omega (arith, w.ready.lent.view_long);
+          few = (few asked refl).1;
+          found = h ∙ ap all (sym (refs_are ts h));
         }
 
-    pub exists_is : (z : Fold) → asked ≡ ask.Rows z → ExistsIs c ss v f t u deep d at count z o.scope
-    unfolding next_at
-    exists_is z e =
-        let h = read.exists_read v f.n d at w.ready.is_read refl (exists_node z e) in
-        let b = exists_good (tables_from c f.nc f.nc 0) (scopes_of c f.nc t deep) _ _ at z _ h.x (whole h.whole) in
-        let x = part b.tabs b.there (at + 1 + count) h.first b.test in
-        record {
-          block = made b.tabs b.there x.accepted;
-          is = b.is ∙ ap₂ (expr.Expr.exists z) (sym (refs_are b.tabs b.there)) (sym x.expr_as);
-          next = next_is h.first ∙ sym (next_is h.whole);
-          type_as = sym b.type_is;
-        }
-
-    pub single_is : (z : Pick) (m : ℕ) → asked ≡ ask.Values z → m ≡ next_at v f (d - 1) (at + 1 + count) → SingleIs c ss v f t u deep d at count m z o.scope
-    unfolding next_at
-    single_is z m e n =
-        let h = read.single_read v f.n d at w.ready.is_read refl (single_node z e) in
-        let k : parse_value v f.n (d - 1) m ≡ ok h.y h.end = ap (parse_value v f.n (d - 1)) (n ∙ next_is h.first) ∙ h.second in
-        let b = single_good (tables_from c f.nc f.nc 0) (scopes_of c f.nc t deep) _ _ at z _ h.x h.y (whole h.whole) in
-        let x = part b.tabs b.there (at + 1 + count) h.first b.test in
-        let y = part b.tabs b.there m k b.value in
-        record {
-          block = made b.tabs b.there x.accepted;
-          value = y.accepted;
-          is = b.is ∙ rw (refs_are b.tabs b.there, x.expr_as, y.expr_as);
-          next = next_is k ∙ sym (next_is h.whole);
-          type_as = y.type_as ∙ pick_same z _ _ b.rule;
-        }
-
-    pub block_is : BlockIs c ss v f t u deep d at count o.scope
-    block_is = go asked refl
+    -- its tables are there
+    pub block_tabled : Tabled c f.nc ss f.tables v (at + 1) count
+    block_tabled = go asked refl
       where
-        go : (b : Asked) → asked ≡ b → BlockIs c ss v f t u deep d at count o.scope
-        go (ask.Rows h) e = (exists_is h e).block
-        go (ask.Values h) e = (single_is h _ e refl).block
+        go : (b : Asked) → asked ≡ b → Tabled c f.nc ss f.tables v (at + 1) count
+        go (ask.Rows z) e =
+            let h = read.exists_read v f.n d at w.ready.is_read refl (exists_node z e) in
+            let b = exists_good (tables_from c f.nc f.nc 0) (scopes_of c f.nc t deep) _ _ at z _ h.x (whole h.whole) in
+            tabled_by b.tabs b.there
+        go (ask.Values z) e =
+            let h = read.single_read v f.n d at w.ready.is_read refl (single_node z e) in
+            let b = single_good (tables_from c f.nc f.nc 0) (scopes_of c f.nc t deep) _ _ at z _ h.x h.y (whole h.whole) in
+            tabled_by b.tabs b.there
+
+    pub block_some : 1 ≤ count
+    block_some = (few asked refl).0
+
+    -- its entry
+    pub block_entry : (o : Scope) × (fine o ≡ opened_by ss (tables_named (tables_from c f.nc f.nc 0) (names_at v (at + 1) count)))
+    block_entry = (_, sym (block_fine c f.nc f.tables ss v (at + 1) count _ _ block_tabled.found refl))
+
+    -- o is its entry, u the table with its scope open
+    module _ (o : Scope) (p : fine o ≡ opened_by ss (tables_named (tables_from c f.nc f.nc 0) (names_at v (at + 1) count))) (u : List Scope) (q : u ≡ set t deep o) where
+      -- a part in the block's scope
+      part : (ts : List TabRef) → tables_named (tables_from c f.nc f.nc 0) (names_at v (at + 1) count) ≡ all ts → (m : ℕ) {x : Exp} {k : ℕ} {y : Expr} {r : Ty}
+          → parse_value v f.n (d - 1) m ≡ ok x k → resolve (tables_from c f.nc f.nc 0) (opened ts ∷ scopes_of c f.nc t deep) x ≡ good y r → Is c ss v f u (deep + 1) (d - 1) m y r
+      unfolding refs_of
+      part ts h m i j =
+          let l : deep < 16 = omega (arith, w.ready.left, w.ready.not_many) in
+          let b = block_opened c f.nc f.tables ss v (at + 1) count o w.ready.lent.starts w.ready.lent.cat_few (few asked refl) p in
+          inner m u o q (narrow_entry o b.untyped) _
+          (block_scopes c f.nc t u deep o q l w.ready.sized _ b ∙ ap (λ (z : Tabs). opened (refs_of z) ∷ scopes_of c f.nc t deep) h) i j
+
+      made : (ts : List TabRef) → tables_named (tables_from c f.nc f.nc 0) (names_at v (at + 1) count) ≡ all ts → Accepted c ss v f u (deep + 1) (d - 1) (at + 1 + count)
+          → BlockIs c ss v f t u deep d at count o
+      unfolding refs_at
+      made ts h a =
+          let l : deep < 16 = omega (arith, w.ready.left, w.ready.not_many) in
+          let b = block_opened c f.nc f.tables ss v (at + 1) count o w.ready.lent.starts w.ready.lent.cat_few (few asked refl) p in
+          record {
+            tabled = tabled_by ts h;
+            some = (few asked refl).0;
+            counted = ap length (refs_are ts h) ∙ names_length _ v (at + 1) count ts h;
+            entry = b;
+            test = a;
+            infos = block_infos c f.nc t u deep o q l w.ready.sized _ b;
+          }
+
+      pub exists_is : (z : Fold) → asked ≡ ask.Rows z → ExistsIs c ss v f t u deep d at count z o
+      unfolding next_at
+      exists_is z e =
+          let h = read.exists_read v f.n d at w.ready.is_read refl (exists_node z e) in
+          let b = exists_good (tables_from c f.nc f.nc 0) (scopes_of c f.nc t deep) _ _ at z _ h.x (whole h.whole) in
+          let x = part b.tabs b.there (at + 1 + count) h.first b.test in
+          record {
+            block = made b.tabs b.there x.accepted;
+            is = b.is ∙ ap₂ (expr.Expr.exists z) (sym (refs_are b.tabs b.there)) (sym x.expr_as);
+            next = next_is h.first ∙ sym (next_is h.whole);
+            type_as = sym b.type_is;
+          }
+
+      pub single_is : (z : Pick) (m : ℕ) → asked ≡ ask.Values z → m ≡ next_at v f (d - 1) (at + 1 + count) → SingleIs c ss v f t u deep d at count m z o
+      unfolding next_at
+      single_is z m e n =
+          let h = read.single_read v f.n d at w.ready.is_read refl (single_node z e) in
+          let k : parse_value v f.n (d - 1) m ≡ ok h.y h.end = ap (parse_value v f.n (d - 1)) (n ∙ next_is h.first) ∙ h.second in
+          let b = single_good (tables_from c f.nc f.nc 0) (scopes_of c f.nc t deep) _ _ at z _ h.x h.y (whole h.whole) in
+          let x = part b.tabs b.there (at + 1 + count) h.first b.test in
+          let y = part b.tabs b.there m k b.value in
+          record {
+            block = made b.tabs b.there x.accepted;
+            value = y.accepted;
+            is = b.is ∙ rw (refs_are b.tabs b.there, x.expr_as, y.expr_as);
+            next = next_is k ∙ sym (next_is h.whole);
+            type_as = y.type_as ∙ pick_same z _ _ b.rule;
+          }
+
+      pub block_is : BlockIs c ss v f t u deep d at count o
+      block_is = go asked refl
+        where
+          go : (b : Asked) → asked ≡ b → BlockIs c ss v f t u deep d at count o
+          go (ask.Rows h) e = (exists_is h e).block
+          go (ask.Values h) e = (single_is h _ e refl).block

@@ -1,5 +1,6 @@
 -- The leaves of the writer: one law for each place of their code. Its premises are what the code has found there.
 -- Assumes nothing.
+use Rattle.std.specs.Prelude.{Option, Some, None, unwrap_or}
 use Prim.Native.Nat.{ℕ, zero, suc, ◌+◌, ◌*◌, ◌<◌, ◌≤◌}
 use mathlib.Core.Path.{◌≡◌, refl, sym, ap, ap₂, ◌∙◌, subst}
 use mathlib.Core.Bool.{Bool, true, false}
@@ -8,20 +9,19 @@ use native.Mathlib.Omega.{arith}
 use native.Mathlib.Numerals.{add-one}
 use borrow.Author.Rules.{rules}
 use lib.ListN.{length, drop, drop_of_length-le}
+use Rattle.word.specs.Refusal.{fine, refusal}
 use Rattle.word.specs.Record.{Record, rec_at, rec_bytes}
 use Rattle.word.specs.Writer.{Writes}
 use Rattle.word.specs.declared.writer.Writer.{Writer}
 use Rattle.class.specs.declared.Info.{Info}
 use Rattle.class.specs.declared.Info.TheVariants.{Fixed}
-use Rattle.cell.specs.Res.{Res, stuck, done, or_else, nth}
-use Rattle.cell.specs.Types.{digits_of, scale_of, same_type, judged_of}
-use Rattle.cell.specs.declared.Judged.{Judged}
-use Rattle.cell.specs.declared.Judged.TheVariants as judge
+use Rattle.cell.specs.Res.{Res, stuck, done, or_else, option_of, nth}
+use Rattle.cell.specs.Types.{digits_of, scale_of, same_type}
 use Rattle.cell.specs.declared.Type.{«Type» as Ty}
 use Rattle.cell.specs.declared.Type.TheVariants as T
 use Rattle.catalogue.specs.Tables.{TabRef, tables_from, table_named}
-use Rattle.catalogue.specs.Starts.{ref_by}
-use Rattle.view.specs.Parse.{name_of}
+use Rattle.catalogue.specs.Starts.{ref_of}
+use Rattle.view.specs.Parse.{name_of, names_at}
 use Rattle.view.specs.Record.{node_of, node_at, const_rec}
 use Rattle.view.specs.declared.Fold.{Fold}
 use Rattle.view.specs.declared.Fold.TheVariants as fold
@@ -29,7 +29,9 @@ use Rattle.view.specs.declared.Pick.{Pick}
 use Rattle.view.specs.declared.Pick.TheVariants as pick
 use Rattle.view.proofs.Constants.{Small, const_again}
 use Rattle.view.proofs.Says.{exists_digits}
-use Rattle.scope.proofs.Named.{names_length, number_again}
+use Rattle.scope.specs.Blocks.{tables_named}
+use Rattle.scope.specs.Entry.{opened_by}
+use Rattle.scope.proofs.Named.{names_length, number_again, block_fine}
 use Rattle.scope.specs.declared.Scope.{Scope}
 use Rattle.scope.specs.declared.Found.{Found}
 use Rattle.scope.specs.declared.Found.TheVariants as F
@@ -38,34 +40,18 @@ use Rattle.resolve.specs.declared.Asked.{Asked}
 use Rattle.resolve.specs.declared.Asked.TheVariants as ask
 use Rattle.resolve.specs.declared.Files.{Files}
 use Rattle.resolve.specs.declared.Known.{Known}
-use Rattle.resolve.specs.declared.Typed.{Typed}
-use Rattle.resolve.specs.declared.Typed.TheVariants as typed
 use Rattle.tree.specs.Tree.{rec_of, Tree, tree_const, tree_binop, tree_not, tree_if, tree_exists, tree_value, tree_data, tree_cell_class, tree_row_class, tree_local, tree_local_class, tree_conv, tree_bind, tree_bind_class, tree_lub, tree_dom, tree_agg, size, encode, table_recs, fold_kind, fold_op, pick_kind}
 use Rattle.tree.specs.Trans.{nums}
 use Rattle.tree.specs.Claims.{type_at, Accepted, refs_at, IsConst, const_tree, col_tree, class_tree, found_type, found_info, row_info, conv_bytes, block_kind, block_op}
 use Rattle.tree.specs.Levels.{Fits}
 use Rattle.tree.proofs.Writers.{writes_none, writes_as, fits_as, fits_front, fits_record, Rests, rests_next, rests_as, rests_done}
 
--- ---- types, by what is found
+-- ---- the type of BINOP, where its rule is kept
 
-module _ (j : Judged) (x : Res Ty) (e : j ≡ judged_of x) where
-  pub rule_kept : {s : Ty} → j ≡ judge.Is s → s ≡ or_else T.Null x
-  unfolding judged_of or_else
-  rule_kept {s} f = go x (sym f ∙ e)
-    where
-      go : (y : Res Ty) → judge.Is s ≡ judged_of y → s ≡ or_else T.Null y
-      go stuck g = absurd (let z : ◌≡◌ {A = ℕ} 0 1 = cc in omega arith)
-      go (done u) g = cc
-
-  pub rule_broken : j ≡ judge.Broken → T.Null ≡ or_else T.Null x
-  unfolding judged_of or_else
-  rule_broken f = go x (sym f ∙ e)
-    where
-      go : (y : Res Ty) → judge.Broken ≡ judged_of y → T.Null ≡ or_else T.Null y
-      go stuck g = refl
-      go (done u) g = absurd (let z : ◌≡◌ {A = ℕ} 0 1 = cc in omega arith)
-
-pub ruleset types = (rule_kept, rule_broken, rules)
+pub type_or : (x : Res Ty) {r : Option Ty} → r ≡ option_of x → {s : Ty} → s ≡ unwrap_or r T.Null → s ≡ or_else T.Null x
+unfolding option_of or_else
+type_or stuck e h = rw e at h
+type_or (done u) e h = rw e at h
 
 -- ---- CONV
 
@@ -83,8 +69,6 @@ module _ {w : Writer} (s t : Ty) {b : Bool} (e : b ≡ same_type s t) where
 
   pub conv_other : {w₁ : Writer} {p q : ℕ} → b ≡ false → p ≡ digits_of t → q ≡ scale_of t → Writes (rec_bytes 22 (16 * p + q) 0 0 0) w w₁ → Writes (conv_bytes s t) w w₁
   conv_other f i j x = writes_as (ap₂ (λ (m n : ℕ). rec_bytes 22 (16 * m + n) 0 0 0) i j ∙ sym (conv_is s t e f)) x
-
-pub ruleset converted = (conv_same, conv_room, conv_other, rules)
 
 -- ---- a block's op
 
@@ -117,24 +101,41 @@ module _ (c : List ℕ) (n : ℕ) (ss : List ℕ) (tables : ℕ) (v : List ℕ) 
     unfolding refs_at
     refs_long = names_length _ v at count (refs_at c n v at count) w.found
 
-    next_rec : (j k : ℕ) → j < count → (table_named (name_of (node_at v (at + j))) (tables_from c n n 0) ≡ ref_by c n ss tables k) × (k ≤ tables)
-        → table_recs (nums (drop j (refs_at c n v at count))) ≡ rec_bytes 12 0 k 0 0 ++ table_recs (nums (drop (j + 1) (refs_at c n v at count)))
-    unfolding refs_at table_recs
-    next_rec j k h e =
-        let p = part (refs_at c n v at count) j (omega (arith, refs_long)) in
-        let q = number_again c n tables ss v at count (refs_at c n v at count) p.0 j (at + j) k w.found h p.1 refl e in
-        rw (add-one j, q) (ap (λ (ts : List TabRef). table_recs (nums ts)) p.2)
+    module _ (j : ℕ) (r : Option ℕ) (h : j < count) (e : table_named (name_of (node_at v (at + j))) (tables_from c n n 0) ≡ ref_of c n ss r) where
+      own : (t : TabRef) × (nth (refs_at c n v at count) j ≡ done t) × (drop j (refs_at c n v at count) ≡ t ∷ drop (suc j) (refs_at c n v at count))
+      own = part (refs_at c n v at count) j (omega (arith, refs_long))
+
+      number_is : r ≡ Some own.0.num
+      unfolding refs_at
+      number_is = number_again c n tables ss v at count (refs_at c n v at count) own.0 j (at + j) r w.found h own.1 refl e
+
+      pub number_missing : r ≡ None → ⊥
+      number_missing g = let z : ◌≡◌ {A = Option ℕ} None (Some own.0.num) = sym g ∙ number_is in absurd (let y : ◌≡◌ {A = ℕ} 0 1 = cc in omega arith)
+
+      pub next_rec : (k : ℕ) → r ≡ Some k
+          → table_recs (nums (drop j (refs_at c n v at count))) ≡ rec_bytes 12 0 k 0 0 ++ table_recs (nums (drop (j + 1) (refs_at c n v at count)))
+      unfolding table_recs
+      next_rec k g =
+          let z : Some own.0.num ≡ Some k = sym number_is ∙ g in
+          let q : own.0.num ≡ k = cc in
+          rw (add-one j, ← q) (ap (λ (ts : List TabRef). table_recs (nums ts)) own.2)
 
     module _ {x₀ x : Writer} {j : ℕ} (l : Rests (table_recs (nums (drop j (refs_at c n v at count)))) x (table_recs (nums (refs_at c n v at count))) x₀) where
-      pub left_room : (k : ℕ) → j < count → (table_named (name_of (node_at v (at + j))) (tables_from c n n 0) ≡ ref_by c n ss tables k) × (k ≤ tables) → x.at + 8 ≤ length x.out.now
-      left_room k h e = fits_record 12 0 k 0 0 (fits_front (table_recs (nums (drop (j + 1) (refs_at c n v at count)))) (fits_as (next_rec j k h e) l.room))
+      pub left_room : (r : Option ℕ) (k : ℕ) → j < count → table_named (name_of (node_at v (at + j))) (tables_from c n n 0) ≡ ref_of c n ss r → r ≡ Some k → x.at + 8 ≤ length x.out.now
+      left_room r k h e g = fits_record 12 0 k 0 0 (fits_front (table_recs (nums (drop (j + 1) (refs_at c n v at count)))) (fits_as (next_rec j r h e k g) l.room))
 
-      pub left_again : (k : ℕ) {x₁ : Writer} → j < count → (table_named (name_of (node_at v (at + j))) (tables_from c n n 0) ≡ ref_by c n ss tables k) × (k ≤ tables)
+      pub left_again : (r : Option ℕ) (k : ℕ) {x₁ : Writer} → j < count → table_named (name_of (node_at v (at + j))) (tables_from c n n 0) ≡ ref_of c n ss r → r ≡ Some k
           → Writes (rec_bytes 12 0 k 0 0) x x₁ → Rests (table_recs (nums (drop (j + 1) (refs_at c n v at count)))) x₁ (table_recs (nums (refs_at c n v at count))) x₀
-      left_again k h e y = rests_next y (rests_as (next_rec j k h e) l)
+      left_again r k h e g y = rests_next y (rests_as (next_rec j r h e k g) l)
 
       pub left_done : count ≤ j → Writes (table_recs (nums (refs_at c n v at count))) x₀ x
       unfolding table_recs
       left_done h =
           let z : length (refs_at c n v at count) ≤ j = omega (arith, refs_long) in
           rests_done (rests_as (ap (λ (ts : List TabRef). table_recs (nums ts)) (drop_of_length-le (refs_at c n v at count) z)) l)
+
+    -- the entry of tables that are there is no refusal
+    pub opened_there : {k p : ℕ} → refusal k p ≡ opened_by ss (tables_named (tables_from c n n 0) (names_at v at count)) → ⊥
+    opened_there {k} {p} e =
+        let z = block_fine c n tables ss v at count _ (refusal k p) w.found e in
+        absurd (let y : ◌≡◌ {A = ℕ} 0 1 = cc in omega arith)

@@ -39,7 +39,7 @@ use Rattle.tree.specs.Tree.{encode, table_recs}
 use Rattle.tree.specs.Trans.{nums}
 use Rattle.tree.specs.Claims.{expr_at, type_at, data_at, next_at, Accepted, refs_at}
 use Rattle.tree.specs.Noted.{noted_bytes, notes_in, Stands, Noting}
-use Rattle.tree.proofs.Accepted.{BlockIs, const_is, col_is, classof_is, not_is, binop_is, if_is, let_is, exists_is, single_is, no_table, no_select, no_bad}
+use Rattle.tree.proofs.Accepted.{BlockIs, const_is, col_is, classof_is, not_is, binop_is, if_is, let_is, block_entry, exists_is, single_is, no_table, no_select, no_bad}
 use Rattle.tree.proofs.Gives.{Gives, gives_tables, Told, told_as, told_const, told_column, told_classof, told_local, told_not, told_binop, told_let, told_if, told_exists, told_single}
 use Rattle.tree.proofs.Narrow.{narrow_type}
 use Rattle.tree.proofs.Reach.{reach}
@@ -132,11 +132,15 @@ module _ (c ss v : List ℕ) (f : Files) where
         let r = limb_ty _ _ _ (limb_rule _ _ (sym e) refl refl) in
         told_as v b.is b.next (told_if v _ _ _ _ _ _ (sym e) (conv_left r) (conv_right r) (ih t deep _ b.test) (ih t deep _ b.yes) (ih t deep _ b.no))
     step ih (Exists a q) e =
-        let b = exists_is c ss v f t deep d at w (ask.Rows q) a (unfold block_node in sym e) _ refl _ refl q refl in
+        let g : node_at v at ≡ block_node (ask.Rows q) a = unfold block_node in sym e in
+        let o = block_entry c ss v f t deep d at w (ask.Rows q) a g in
+        let b = exists_is c ss v f t deep d at w (ask.Rows q) a g o.0 o.1 _ refl q refl in
         let l = read.exists_listed v f.n d at w.ready.is_read e refl in
         told_as v b.is b.next (told_exists v at a _ b.block.counted (block_told a _ _ l b.block) q _ (sym e) (ih _ _ _ b.block.test))
     step ih (Single a q) e =
-        let b = single_is c ss v f t deep d at w (ask.Values q) a (unfold block_node in sym e) _ refl _ refl q _ refl refl in
+        let g : node_at v at ≡ block_node (ask.Values q) a = unfold block_node in sym e in
+        let o = block_entry c ss v f t deep d at w (ask.Values q) a g in
+        let b = single_is c ss v f t deep d at w (ask.Values q) a g o.0 o.1 _ refl q _ refl refl in
         let l = read.single_listed v f.n d at w.ready.is_read e refl in
         told_as v b.is b.next (told_single v at a _ b.block.counted (block_told a _ _ l b.block) q _ _ (sym e) (ih _ _ _ b.block.test) (ih _ _ _ b.value))
     step ih (Col name q) e =

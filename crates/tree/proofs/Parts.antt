@@ -16,9 +16,8 @@ use Rattle.catalogue.specs.Tables.{Table}
 use Rattle.view.specs.declared.Fold.{Fold}
 use Rattle.view.specs.declared.Pick.{Pick}
 use Rattle.scope.specs.Scopes.{Hit, Only}
-use Rattle.scope.specs.Words.{count_in}
 use Rattle.scope.specs.Table.{open_of, infos_of, found_of}
-use Rattle.scope.specs.Entry.{tables_in}
+use Rattle.scope.specs.Entry.{count_in, tables_in}
 use Rattle.scope.specs.declared.Scope.{Scope}
 use Rattle.scope.specs.declared.Found.{Found}
 use Rattle.resolve.specs.Expr.{Expr}

@@ -10,9 +10,10 @@ use lib.ListN.{length, get_or}
 use Rattle.word.specs.Record.{kind_at}
 use Rattle.catalogue.specs.Tables.{Table, Column, column_at, cols_from, table_at}
 use Rattle.scope.specs.Scopes.{Open, block, local, Hit, column, bound, Only, one, only_of, in_cols, in_table, in_tabs, in_scope, nearest, find}
-use Rattle.scope.specs.Words.{count_in, table_in, name_in, type_in}
+use Rattle.scope.specs.Entry.{table_in}
 use Rattle.scope.specs.Table.{tabs_at, open_of, blank, scopes_of}
 use Rattle.scope.specs.declared.Scope.{Scope}
+use Rattle.scope.specs.declared.Scope.TheVariants as S
 
 -- d scopes are open, over a catalogue of n records
 module _ (d n : ℕ) where
@@ -105,11 +106,8 @@ tabs_long c n s i (suc k) = ap suc (tabs_long c n s (i + 1) k)
 
 open_fair : (d : ℕ) (c : List ℕ) (n : ℕ) (s : Scope) → Fair d n (open_of c n s)
 unfolding open_of
-open_fair d c n s = go (eqb (count_in s) 0) _ (omega (arith, tabs_long c n s 0 (min (count_in s) 4))) (tabs_wide d c n s 0 _)
-  where
-    go : (b : Bool) (ts : List Table) → length ts ≤ 4 → Wide d n ts → Fair d n (cond b (local (name_in s) (type_in s)) (block ts))
-    go true ts l k = tt
-    go false ts l k = (l, k)
+open_fair d c n (S.Block b) = (omega (arith, tabs_long c n (S.Block b) 0 (min b.count 4)), tabs_wide d c n (S.Block b) 0 _)
+open_fair d c n (S.Local l) = tt
 
 scopes_fair : (d : ℕ) (c : List ℕ) (n : ℕ) (t : List Scope) (deep : ℕ) → Fairs d n (scopes_of c n t deep)
 unfolding scopes_of

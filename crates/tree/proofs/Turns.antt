@@ -10,6 +10,7 @@ use Rattle.word.specs.Writer.{Writes}
 use Rattle.word.specs.declared.writer.Writer.{Writer}
 use Rattle.word.specs.Record.{Record, rec_bytes}
 use Rattle.word.proofs.Writing.{writes_then}
+use Rattle.word.specs.Refusal.{fine}
 use Rattle.class.specs.Info.{join_i, choice_i}
 use Rattle.class.specs.declared.Info.{Info}
 use Rattle.class.specs.declared.Info.TheVariants.{Fixed}
@@ -30,7 +31,6 @@ use Rattle.scope.specs.Table.{open_of, scopes_of, infos_of, found_of}
 use Rattle.scope.specs.Blocks.{tables_named}
 use Rattle.scope.specs.Entry.{local_scope, opened_by, tables_in}
 use Rattle.scope.specs.declared.Scope.{Scope}
-use Rattle.scope.specs.declared.Opened.{Opened}
 use Rattle.scope.specs.declared.Found.{Found}
 use Rattle.resolve.specs.Totals.{fold_type}
 use Rattle.resolve.specs.Infos.{block_i}
@@ -215,67 +215,67 @@ module _ (c ss v : List ℕ) (f : Files) (t : List Scope) (deep d at : ℕ) (w :
 
   -- A BLOCK: p is its entry, u the table with its scope open, r₀ its record
   module _ {o : Writer} (r : Fits (encode (data_at c v f t deep d at)) o) (asked : Asked) (count : ℕ) (g : node_at v at ≡ block_node asked count)
-      (p : Opened) (i : p ≡ opened_by ss (tables_named (tables_from c f.nc f.nc 0) (names_at v (at + 1) count))) (u : List Scope) (j : u ≡ set t deep p.scope)
+      (p : Scope) (i : fine p ≡ opened_by ss (tables_named (tables_from c f.nc f.nc 0) (names_at v (at + 1) count))) (u : List Scope) (j : u ≡ set t deep p)
       {r₀ : Record} (n : r₀ ≡ block_rec asked count) {o₁ : Writer} (x₀ : Writes (rec_of r₀) o o₁) where
     x : Writes (rec_bytes (block_kind asked) (block_op asked) count 0 0) o o₁
     x = rw n at x₀
 
-    exists_way : (y : Fold) → asked ≡ ask.Rows y → ExistsIs c ss v f t u deep d at count y p.scope
+    exists_way : (y : Fold) → asked ≡ ask.Rows y → ExistsIs c ss v f t u deep d at count y p
     exists_way y e = exists_is c ss v f t deep d at w asked count g p i u j y e
 
-    single_way : (y : Pick) (l : ℕ) → asked ≡ ask.Values y → l ≡ next_at v f (d - 1) (at + 1 + count) → SingleIs c ss v f t u deep d at count l y p.scope
+    single_way : (y : Pick) (l : ℕ) → asked ≡ ask.Values y → l ≡ next_at v f (d - 1) (at + 1 + count) → SingleIs c ss v f t u deep d at count l y p
     single_way y l e h = single_is c ss v f t deep d at w asked count g p i u j y l e h
 
-    pub block_asks : Opening c f.nc p.scope
-    block_asks = block_opening c ss v f t deep d at count p.scope u (block_is c ss v f t deep d at w asked count g p i u j)
+    pub block_asks : Opening c f.nc p
+    block_asks = block_opening c ss v f t deep d at count p u (block_is c ss v f t deep d at w asked count g p i u j)
 
     pub tables_ask : Tabled c f.nc ss f.tables v (at + 1) count × Fits (table_recs (nums (refs_at c f.nc v (at + 1) count))) o₁
     tables_ask = ((block_is c ss v f t deep d at w asked count g p i u j).tabled, go asked refl)
       where
         go : (b : Asked) → asked ≡ b → Fits (table_recs (nums (refs_at c f.nc v (at + 1) count))) o₁
-        go (ask.Rows s) e = fits_front _ (fits_after x (fits_as (exists_bytes c ss v f t deep d at asked count p.scope u _ _ refl refl s e (exists_way s e)) r))
-        go (ask.Values s) e = fits_front _ (fits_after x (fits_as (single_bytes c ss v f t deep d at asked count p.scope u _ _ refl refl s _ e (single_way s _ e refl)) r))
+        go (ask.Rows s) e = fits_front _ (fits_after x (fits_as (exists_bytes c ss v f t deep d at asked count p u _ _ refl refl s e (exists_way s e)) r))
+        go (ask.Values s) e = fits_front _ (fits_after x (fits_as (single_bytes c ss v f t deep d at asked count p u _ _ refl refl s _ e (single_way s _ e refl)) r))
 
     module _ {o₂ : Writer} (y : Writes (table_recs (nums (refs_at c f.nc v (at + 1) count))) o₁ o₂) where
       pub where_asks : Accepted c ss v f u (deep + 1) (d - 1) (at + 1 + count) × Fits (encode (data_at c v f u (deep + 1) (d - 1) (at + 1 + count))) o₂
       where_asks = ((block_is c ss v f t deep d at w asked count g p i u j).test, go asked refl)
         where
           go : (z : Asked) → asked ≡ z → Fits (encode (data_at c v f u (deep + 1) (d - 1) (at + 1 + count))) o₂
-          go (ask.Rows s) e = fits_after y (fits_after x (fits_as (exists_bytes c ss v f t deep d at asked count p.scope u _ _ refl refl s e (exists_way s e)) r))
-          go (ask.Values s) e = fits_front _ (fits_after y (fits_after x (fits_as (single_bytes c ss v f t deep d at asked count p.scope u _ _ refl refl s _ e (single_way s _ e refl)) r)))
+          go (ask.Rows s) e = fits_after y (fits_after x (fits_as (exists_bytes c ss v f t deep d at asked count p u _ _ refl refl s e (exists_way s e)) r))
+          go (ask.Values s) e = fits_front _ (fits_after y (fits_after x (fits_as (single_bytes c ss v f t deep d at asked count p u _ _ refl refl s _ e (single_way s _ e refl)) r)))
 
       module _ (l : Part) {o₃ : Writer} (h : l.next ≡ next_at v f (d - 1) (at + 1 + count)) (z : Writes (encode (data_at c v f u (deep + 1) (d - 1) (at + 1 + count))) o₂ o₃) where
         pub exists_done : {s : Fold} {ty : Ty} {info : Info} → asked ≡ ask.Rows s → ty ≡ fold_type s
-            → l.info ≡ info_at c v f u (deep + 1) (d - 1) (at + 1 + count) → info ≡ block_i (refs_to (tables_in (open_of c f.nc p.scope))) (l.info ∷ [])
+            → l.info ≡ info_at c v f u (deep + 1) (d - 1) (at + 1 + count) → info ≡ block_i (refs_to (tables_in (open_of c f.nc p))) (l.info ∷ [])
             → (l.next ≡ next_at v f d at) × (Writes (encode (data_at c v f t deep d at)) o o₃ × ((ty ≡ type_at c v f t deep d at) × (info ≡ info_at c v f t deep d at)))
         exists_done {s} e b₁ i₁ j₁ =
             let is = exists_way s e in (
               h ∙ is.next,
               (
-                writes_as (sym (exists_bytes c ss v f t deep d at asked count p.scope u _ _ refl refl s e is)) (writes_then x (writes_then y z)),
-                (b₁ ∙ is.type_as, j₁ ∙ ap (λ (z₁ : Info). block_i (refs_to (tables_in (open_of c f.nc p.scope))) (z₁ ∷ [])) i₁ ∙ exists_info c ss v f t deep d at count p.scope u s is),
+                writes_as (sym (exists_bytes c ss v f t deep d at asked count p u _ _ refl refl s e is)) (writes_then x (writes_then y z)),
+                (b₁ ∙ is.type_as, j₁ ∙ ap (λ (z₁ : Info). block_i (refs_to (tables_in (open_of c f.nc p))) (z₁ ∷ [])) i₁ ∙ exists_info c ss v f t deep d at count p u s is),
               ),
             )
 
         pub single_asks : {s : Pick} → asked ≡ ask.Values s → Accepted c ss v f u (deep + 1) (d - 1) l.next × Fits (encode (data_at c v f u (deep + 1) (d - 1) l.next)) o₃
         single_asks {s} e =
             let is = single_way s l.next e h in
-            (is.value, fits_after z (fits_after y (fits_after x (fits_as (single_bytes c ss v f t deep d at asked count p.scope u _ _ refl refl s l.next e is) r))))
+            (is.value, fits_after z (fits_after y (fits_after x (fits_as (single_bytes c ss v f t deep d at asked count p u _ _ refl refl s l.next e is) r))))
 
         pub single_done : {s : Pick} {e : Part} {o₄ : Writer} {info : Info} → asked ≡ ask.Values s → e.next ≡ next_at v f (d - 1) l.next → Writes (encode (data_at c v f u (deep + 1) (d - 1) l.next)) o₃ o₄
             → e.ty ≡ type_at c v f u (deep + 1) (d - 1) l.next
             → l.info ≡ info_at c v f u (deep + 1) (d - 1) (at + 1 + count) → e.info ≡ info_at c v f u (deep + 1) (d - 1) l.next
-            → info ≡ block_i (refs_to (tables_in (open_of c f.nc p.scope))) (l.info ∷ choice_i e.info (Fixed 0) ∷ [])
+            → info ≡ block_i (refs_to (tables_in (open_of c f.nc p))) (l.info ∷ choice_i e.info (Fixed 0) ∷ [])
             → (e.next ≡ next_at v f d at) × (Writes (encode (data_at c v f t deep d at)) o o₄ × ((e.ty ≡ type_at c v f t deep d at) × (info ≡ info_at c v f t deep d at)))
         single_done {s} b₁ k₁ y₁ n₁ i₁ j₁ h₁ =
             let is = single_way s l.next b₁ h in (
               k₁ ∙ is.next,
               (
-                writes_as (sym (single_bytes c ss v f t deep d at asked count p.scope u _ _ refl refl s l.next b₁ is)) (writes_then x (writes_then y (writes_then z y₁))),
+                writes_as (sym (single_bytes c ss v f t deep d at asked count p u _ _ refl refl s l.next b₁ is)) (writes_then x (writes_then y (writes_then z y₁))),
                 (
                   n₁ ∙ is.type_as,
-                  h₁ ∙ ap₂ (λ (z₁ z₂ : Info). block_i (refs_to (tables_in (open_of c f.nc p.scope))) (z₁ ∷ choice_i z₂ (Fixed 0) ∷ [])) i₁ j₁
-                      ∙ single_info c ss v f t deep d at count p.scope u s l.next is,
+                  h₁ ∙ ap₂ (λ (z₁ z₂ : Info). block_i (refs_to (tables_in (open_of c f.nc p))) (z₁ ∷ choice_i z₂ (Fixed 0) ∷ [])) i₁ j₁
+                      ∙ single_info c ss v f t deep d at count p u s l.next is,
                 ),
               ),
             )

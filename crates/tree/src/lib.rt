@@ -17,23 +17,20 @@ ghost use Rattle.tree.specs.Levels.{data_in, limb_in, AcceptedIn, ToldIn, Fits};
 
 pub use known::known_at;
 pub use noted::write_noted;
-pub use records::table_recs;
+pub use records::{block_scope, table_recs};
 use word::{Record, Writer};
 
-/// What a walk of a value reads: the files, the scopes that are open, so many of them, and the depth that is left.
+/// What the writer of a value reads: the catalogue and the view, the scopes that are open, so many of them, and the depth that is left.
 #[derive(Clone, Copy)]
 pub struct Level<'a> {
-    pub cat: &'a [u8],
-    pub starts: &'a [u16; 32],
-    pub view: &'a [u8],
-    pub files: resolve::Files,
+    pub source: &'a resolve::Source<'a>,
     pub scopes: &'a [scope::Scope; 16],
     pub deep: usize,
     pub depth: usize,
 }
 
 /// What is known of a value: its type, what is known of its class, and the record after it.
-#[derive(Clone, Copy)]
+#[derive(Clone, Copy, PartialEq, Eq, Debug)]
 pub struct Part {
     pub ty: cell::Type,
     pub info: class::Info,
@@ -49,17 +46,19 @@ pub fn write_d(level: &Level, at: usize, writer: &mut Writer, pad: &mut [u64; 10
     ensures told { ToldIn level.now at result }
     ensures wrote { Writes (encode (data_in level.now at)) writer.old writer.new }
 {
+    let source = level.source;
+    let held = level.scopes;
     let next = at + 1;
     let down = Level {
         depth: level.depth - 1,
         ..*level
     };
-    match view::sound_at(level.view, at) {
+    match view::sound_at(source.view, at) {
         view::Node::Const(ty, _) => {
-            writer.put(records::constant(level.view, at));
+            writer.put(records::constant(source.view, at));
             Part {
                 ty,
-                info: class::Info::Fixed(level.files.k),
+                info: class::Info::Fixed(source.files.k),
                 next,
             }
         }
@@ -68,8 +67,8 @@ pub fn write_d(level: &Level, at: usize, writer: &mut Writer, pad: &mut [u64; 10
             writer.at += 8;
             let x = write_d(&down, next, writer, pad);
             let y = write_d(&down, x.next, writer, pad);
-            let ty = known::binop_type(op, x.ty, y.ty);
-            let digits = cell::digits_of(ty) as u16;
+            let ty = cell::Type::binop(op, x.ty, y.ty).unwrap_or(cell::Type::Null);
+            let digits = u16::from(ty.digits());
             word::put_record(
                 writer.out,
                 place,
@@ -108,7 +107,7 @@ pub fn write_d(level: &Level, at: usize, writer: &mut Writer, pad: &mut [u64; 10
             write_block(level, at, a, resolve::Asked::Values(g), writer, pad)
         }
         view::Node::Col(name, q) => {
-            let h = scope::find(*level.scopes, level.cat, level.files.nc, level.deep, name, q);
+            let h = scope::find(held, source.cat, source.files.nc, level.deep, name, q);
             writer.put(records::column(h));
             Part {
                 ty: known::found_type(h),
@@ -117,7 +116,7 @@ pub fn write_d(level: &Level, at: usize, writer: &mut Writer, pad: &mut [u64; 10
             }
         }
         view::Node::Classof(name, q) => {
-            let h = scope::find(*level.scopes, level.cat, level.files.nc, level.deep, name, q);
+            let h = scope::find(held, source.cat, source.files.nc, level.deep, name, q);
             writer.put(records::cell_class(h));
             Part {
                 ty: cell::Type::Class,
@@ -176,16 +175,15 @@ fn write_block(
     pad: &mut [u64; 1024],
 ) -> Part
     requires accepted { AcceptedIn level.now at }
-    requires block { node_at level.now.view.now at ≡ block_node asked count }
+    requires block { node_at level.now.source.now.view.now at ≡ block_node asked count }
     requires room { Fits (encode (data_in level.now at)) writer.old }
     ensures told { ToldIn level.now at result }
     ensures wrote { Writes (encode (data_in level.now at)) writer.old writer.new }
 {
     let first = at + 1;
     let tables = count as usize;
-    let files = level.files;
-    let o = scope::open_block(level.cat, files.nc, level.starts, files.tables, level.view, first, tables);
-    let s = o.scope;
+    let source = level.source;
+    let s = block_scope(source, first, tables);
     let scopes = scope::pushed(*level.scopes, level.deep, s);
     let inner = Level {
         scopes: &scopes,
@@ -194,18 +192,18 @@ fn write_block(
         ..*level
     };
     writer.put(records::block(asked, count));
-    table_recs(level, first, tables, writer);
+    table_recs(source, first, tables, writer);
     let x = write_d(&inner, first + tables, writer, pad);
     match asked {
         resolve::Asked::Rows(q) => Part {
             ty: resolve::fold_type(q),
-            info: resolve::exists_info(s, level.cat, files.nc, x.info),
+            info: resolve::exists_info(s, source.cat, source.files.nc, x.info),
             ..x
         },
         resolve::Asked::Values(_) => {
             let y = write_d(&inner, x.next, writer, pad);
             Part {
-                info: resolve::single_info(s, level.cat, files.nc, x.info, y.info),
+                info: resolve::single_info(s, source.cat, source.files.nc, x.info, y.info),
                 ..y
             }
         }

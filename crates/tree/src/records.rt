@@ -1,13 +1,14 @@
 // The records of a data tree that have no children of their own to write: constants, names, CONV, TABLE; and a block's own.
 ghost use Rattle.std.specs.Prelude.{◌≡◌, ◌+◌, ◌*◌, ◌≤◌, ◌<◌, length};
+ghost use Rattle.word.specs.Refusal.{fine};
 ghost use Rattle.word.specs.Writer.{Writes};
 ghost use Rattle.view.specs.Record.{node_at};
 ghost use Rattle.resolve.specs.Claims.{Narrow};
 ghost use Rattle.tree.specs.Tree.{rec_of, encode, table_recs};
 ghost use Rattle.tree.specs.Claims.{IsConst, const_tree, col_tree, class_tree, conv_bytes, block_op, block_rec};
-ghost use Rattle.tree.specs.Levels.{tables_named_in, TabledIn, Fits};
+ghost use Rattle.tree.specs.Levels.{numbers_in, opened_in, TabledIn, Fits};
 
-use crate::{kinds, Level};
+use crate::kinds;
 use word::{Record, Writer};
 
 // The constant at a record of a view: its record again.
@@ -25,13 +26,21 @@ pub fn column(h: scope::Found) -> Record
     ensures { rec_of result ≡ encode (col_tree h) }
 {
     match h {
-        scope::Found::Column(a, b, c, _, _, _) => Record {
-            a,
-            b,
-            c,
+        scope::Found::Column {
+            outward,
+            table,
+            column,
+            ..
+        } => Record {
+            a: outward,
+            b: table,
+            c: column,
             ..kinds::DATA
         },
-        scope::Found::Local(a, _, _) => Record { a, ..kinds::LOCAL },
+        scope::Found::Local { outward, .. } => Record {
+            a: outward,
+            ..kinds::LOCAL
+        },
         _ => kinds::NULL,
     }
 }
@@ -42,10 +51,15 @@ pub fn cell_class(h: scope::Found) -> Record
     ensures { rec_of result ≡ encode (class_tree h) }
 {
     match h {
-        scope::Found::Column(a, b, c, _, _, _) => Record {
-            a,
-            b,
-            c,
+        scope::Found::Column {
+            outward,
+            table,
+            column,
+            ..
+        } => Record {
+            a: outward,
+            b: table,
+            c: column,
             ..kinds::CELL_CLASS
         },
         _ => kinds::NULL,
@@ -58,10 +72,10 @@ pub fn put_conv(s: cell::Type, t: cell::Type, writer: &mut Writer)
     requires room { Fits (conv_bytes s t) writer.old }
     ensures { Writes (conv_bytes s t) writer.old writer.new }
 {
-    if cell::same_type(s, t) {
+    if s == t {
         return;
     }
-    let op = 16 * cell::digits_of(t) + cell::scale_of(t);
+    let op = 16 * t.digits() + t.scale();
     writer.put(Record { op, ..kinds::CONV });
 }
 
@@ -96,15 +110,30 @@ pub fn block(asked: resolve::Asked, count: u16) -> Record
     }
 }
 
-/// The TABLE records of a block, with the tables' numbers: of those that so many TABLE records of the view name, from record `at` on.
-pub fn table_recs(level: &Level, at: usize, count: usize, writer: &mut Writer)
-    requires tabled { TabledIn level.now at count }
-    requires room { Fits (table_recs (tables_named_in level.now at count)) writer.old }
-    ensures { Writes (table_recs (tables_named_in level.now at count)) writer.old writer.new }
+/// The entry of a block whose tables are all in the catalogue: those that so many TABLE records of the view name, from record `at` on.
+pub fn block_scope(source: &resolve::Source, at: usize, count: usize) -> scope::Scope
+    requires tabled { TabledIn source.now at count }
+    requires some { 1 ≤ count }
+    ensures { fine result ≡ opened_in source.now at count }
 {
-    let files = level.files;
+    let files = source.files;
+    let Ok(s) = scope::open_block(source.cat, files.nc, source.starts, files.tables, source.view, at, count) else {
+        return scope::local_scope(0, cell::Type::Null, class::Info::Fixed(0));
+    };
+    s
+}
+
+/// The TABLE records of a block, with its tables' numbers: of those that so many TABLE records of the view name, from record `at` on.
+pub fn table_recs(source: &resolve::Source, at: usize, count: usize, writer: &mut Writer)
+    requires tabled { TabledIn source.now at count }
+    requires room { Fits (table_recs (numbers_in source.now at count)) writer.old }
+    ensures { Writes (table_recs (numbers_in source.now at count)) writer.old writer.new }
+{
+    let files = source.files;
     for j in 0..count {
-        let k = scope::table_number(level.cat, files.nc, level.starts, files.tables, level.view, at + j);
+        let Some(k) = scope::table_number(source.cat, files.nc, source.starts, files.tables, source.view, at + j) else {
+            return;
+        };
         writer.put(Record { a: k as u16, ..kinds::TABLE });
     }
 }

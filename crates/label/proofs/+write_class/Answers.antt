@@ -4,8 +4,8 @@ use borrow.Author.Rules.{rules}
 use native.Mathlib.Omega.{arith}
 use mathlib.Core.Path.{sym, ◌∙◌}
 use Rattle.word.proofs.Writing.{writes_then}
-use Rattle.resolve.proofs.Scoped.{exists_node, single_node, block_room, block_next, block_few}
-use Rattle.tree.proofs.Accepted.{no_other}
+use Rattle.resolve.proofs.Scoped.{exists_node, single_node, block_next}
+use Rattle.tree.proofs.Accepted.{no_other, block_tabled, block_some}
 use Rattle.tree.proofs.Writers.{writes_as, fits_as, fits_front, fits_after, fits_record, fits_tree}
 use Rattle.label.proofs.Turns.{told_fixed, told_tree, choice_fixed, choice_tree, kept_fixed, kept_tree, asked_rows, asked_value, where_fixed, where_turned, where_open, row_fixed, row_turned, row_open, value_there, no_const, operand_there, operand_bytes, binop_here, cell_bytes, row_bytes, left_there, right_there, binop_turned, binop_open, test_there, yes_there, no_there, if_turned, if_open, own_there, body_there, bind_bytes, bindc_bytes, opened_there, rowed, value_of, aggregate_bytes}
 use Rattle.label.proofs.+write_class.Goals as goal
@@ -187,11 +187,11 @@ write_let-returns-in-Fixed t c = writes_as (sym (bind_bytes c.requires.accepted 
 pub write_let-returns-in-Bound : goal.write_let-returns-in-Bound
 write_let-returns-in-Bound t c = writes_as (sym (bindc_bytes c.requires.accepted c.requires.kind c.known_at-x.ensures c.local_scope-s.ensures c.pushed-scopes.ensures c.requires.tree c.in-Bound.is)) (writes_then c.put-in-Bound.ensures.bytes (writes_then c.write_c-in-Bound.ensures (writes_then c.write_d-in-Bound.ensures.wrote c.write_c-in-Bound-2.ensures)))
 
-pub write_block-open_block-o-requires : goal.write_block-open_block-o-requires
-write_block-open_block-o-requires t c = record { n_in_bounds = search rules; starts_are = search rules; count_in_bounds = block_room _ _ _ _ _ _ _ _ c.requires.accepted.ready _ _ c.requires.block; count_bound = block_few _ _ _ _ _ _ _ _ c.requires.accepted.ready _ _ c.requires.block }
+pub write_block-block_scope-s-requires : goal.write_block-block_scope-s-requires
+write_block-block_scope-s-requires t c = record { tabled = block_tabled _ _ _ _ _ _ _ _ c.requires.accepted _ _ c.requires.block; some = block_some _ _ _ _ _ _ _ _ c.requires.accepted _ _ c.requires.block }
 
 pub write_block-block_class-k-requires : goal.write_block-block_class-k-requires
-write_block-block_class-k-requires t c = record { n_in_bounds = search rules; among = (opened_there c.requires.accepted _ _ c.requires.block c.open_block-o.ensures c.pushed-scopes.ensures).entry.among }
+write_block-block_class-k-requires t c = record { n_in_bounds = search rules; among = (opened_there c.requires.accepted _ _ c.requires.block c.block_scope-s.ensures c.pushed-scopes.ensures).entry.among }
 
 pub write_block-overflow_add-test : goal.write_block-overflow_add-test
 write_block-overflow_add-test t c = let h = block_next _ _ _ _ _ _ _ _ c.requires.accepted.ready _ _ c.requires.block in omega arith
@@ -200,19 +200,19 @@ pub write_block-put-requires : goal.write_block-put-requires
 write_block-put-requires t c = fits_tree _ c.requires.room
 
 pub write_block-put-requires-2 : goal.write_block-put-requires-2
-write_block-put-requires-2 t c = fits_record _ _ _ _ _ (fits_front _ (fits_after c.put.ensures.bytes (fits_as (aggregate_bytes c.requires.accepted _ _ c.requires.block c.open_block-o.ensures c.pushed-scopes.ensures c.block_class-k.ensures) c.requires.room)))
+write_block-put-requires-2 t c = fits_record _ _ _ _ _ (fits_front _ (fits_after c.put.ensures.bytes (fits_as (aggregate_bytes c.requires.accepted _ _ c.requires.block c.block_scope-s.ensures c.pushed-scopes.ensures c.block_class-k.ensures) c.requires.room)))
 
 pub write_block-table_recs-requires : goal.write_block-table_recs-requires
-write_block-table_recs-requires t c = record { tabled = (opened_there c.requires.accepted _ _ c.requires.block c.open_block-o.ensures c.pushed-scopes.ensures).tabled; room = (fits_front _ (fits_after c.put-2.ensures.bytes (fits_after c.put.ensures.bytes (fits_as (aggregate_bytes c.requires.accepted _ _ c.requires.block c.open_block-o.ensures c.pushed-scopes.ensures c.block_class-k.ensures) c.requires.room)))) }
+write_block-table_recs-requires t c = record { tabled = (opened_there c.requires.accepted _ _ c.requires.block c.block_scope-s.ensures c.pushed-scopes.ensures).tabled; room = (fits_front _ (fits_after c.put-2.ensures.bytes (fits_after c.put.ensures.bytes (fits_as (aggregate_bytes c.requires.accepted _ _ c.requires.block c.block_scope-s.ensures c.pushed-scopes.ensures c.block_class-k.ensures) c.requires.room)))) }
 
 pub write_block-write_at_row-requires : goal.write_block-write_at_row-requires
-write_block-write_at_row-requires t c = ((let z = c.decreases in let l = c.requires.accepted.ready.left in omega arith), ((opened_there c.requires.accepted _ _ c.requires.block c.open_block-o.ensures c.pushed-scopes.ensures).test, (rowed c.requires.accepted _ _ c.requires.block c.open_block-o.ensures c.pushed-scopes.ensures, (value_of c.requires.accepted _ _ c.requires.block c.open_block-o.ensures c.pushed-scopes.ensures, (fits_front _ (fits_after c.table_recs.ensures (fits_after c.put-2.ensures.bytes (fits_after c.put.ensures.bytes (fits_as (aggregate_bytes c.requires.accepted _ _ c.requires.block c.open_block-o.ensures c.pushed-scopes.ensures c.block_class-k.ensures) c.requires.room)))))))))
+write_block-write_at_row-requires t c = ((let z = c.decreases in let l = c.requires.accepted.ready.left in omega arith), ((opened_there c.requires.accepted _ _ c.requires.block c.block_scope-s.ensures c.pushed-scopes.ensures).test, (rowed c.requires.accepted _ _ c.requires.block c.block_scope-s.ensures c.pushed-scopes.ensures, (value_of c.requires.accepted _ _ c.requires.block c.block_scope-s.ensures c.pushed-scopes.ensures, (fits_front _ (fits_after c.table_recs.ensures (fits_after c.put-2.ensures.bytes (fits_after c.put.ensures.bytes (fits_as (aggregate_bytes c.requires.accepted _ _ c.requires.block c.block_scope-s.ensures c.pushed-scopes.ensures c.block_class-k.ensures) c.requires.room)))))))))
 
 pub write_block-put-requires-3 : goal.write_block-put-requires-3
-write_block-put-requires-3 t c = fits_record _ _ _ _ _ (fits_after c.write_at_row.ensures (fits_after c.table_recs.ensures (fits_after c.put-2.ensures.bytes (fits_after c.put.ensures.bytes (fits_as (aggregate_bytes c.requires.accepted _ _ c.requires.block c.open_block-o.ensures c.pushed-scopes.ensures c.block_class-k.ensures) c.requires.room)))))
+write_block-put-requires-3 t c = fits_record _ _ _ _ _ (fits_after c.write_at_row.ensures (fits_after c.table_recs.ensures (fits_after c.put-2.ensures.bytes (fits_after c.put.ensures.bytes (fits_as (aggregate_bytes c.requires.accepted _ _ c.requires.block c.block_scope-s.ensures c.pushed-scopes.ensures c.block_class-k.ensures) c.requires.room)))))
 
 pub write_block-returns : goal.write_block-returns
-write_block-returns t c = writes_as (sym (aggregate_bytes c.requires.accepted _ _ c.requires.block c.open_block-o.ensures c.pushed-scopes.ensures c.block_class-k.ensures)) (writes_then c.put.ensures.bytes (writes_then c.put-2.ensures.bytes (writes_then c.table_recs.ensures (writes_then c.write_at_row.ensures c.put-3.ensures.bytes))))
+write_block-returns t c = writes_as (sym (aggregate_bytes c.requires.accepted _ _ c.requires.block c.block_scope-s.ensures c.pushed-scopes.ensures c.block_class-k.ensures)) (writes_then c.put.ensures.bytes (writes_then c.put-2.ensures.bytes (writes_then c.table_recs.ensures (writes_then c.write_at_row.ensures c.put-3.ensures.bytes))))
 
 pub write_at_row-write_where-requires : goal.write_at_row-write_where-requires
 write_at_row-write_where-requires t c = ((let z = c.decreases in omega arith), (c.requires.accepted, (c.requires.rowed, fits_as (asked_rows _ _ _ _ _ _ _ _ c.in-Rows.is) c.requires.room)))

@@ -3,18 +3,18 @@
 use borrow.Author.Rules.{rules}
 use native.Mathlib.Omega.{arith}
 use Prim.Native.Nat.{ℕ}
-use mathlib.Core.Path.{◌≡◌, refl}
+use mathlib.Core.Path.{◌≡◌, refl, ◌∙◌}
 use mathlib.Core.List.{List}
 use Rattle.view.proofs.Read.{here_ok}
-use Rattle.resolve.proofs.Scoped.{exists_node, single_node, block_room, block_next, block_few}
+use Rattle.resolve.proofs.Scoped.{exists_node, single_node, block_next}
 use Rattle.scope.specs.declared.Scope.{Scope}
 use Rattle.resolve.specs.declared.Files.{Files}
 use Rattle.tree.specs.declared.Part.{Part}
 use Rattle.tree.specs.Claims.{type_at, info_at, next_at}
 use Rattle.tree.specs.Levels.{Told}
-use Rattle.tree.proofs.Accepted.{no_other}
+use Rattle.tree.proofs.Accepted.{no_other, block_tabled, block_some}
 use Rattle.tree.proofs.Writers.{writes_as, fits_tree}
-use Rattle.tree.proofs.Leaves.{op_small}
+use Rattle.tree.proofs.Leaves.{op_small, type_or}
 use Rattle.tree.proofs.Turns.{conv_asks, limb_asks, limb_done, const_asks, const_done, col_done, class_done, not_asks, not_done, left_asks, right_asks, binop_asks, binop_done, test_asks, yes_asks, no_asks, if_done, value_asks, body_asks, let_done, block_asks, tables_ask, where_asks, exists_done, single_asks, single_done}
 use Rattle.tree.proofs.+write_block_write_d_write_limb.Goals as goal
 
@@ -23,8 +23,8 @@ parts : {c v : List ℕ} {f : Files} {t : List Scope} {deep d at : ℕ} {r : Par
     → (r.next ≡ next_at v f d at) × (B × ((r.ty ≡ type_at c v f t deep d at) × (r.info ≡ info_at c v f t deep d at))) → record { told : Told c v f t deep d at r; wrote : B }
 parts p = record { told = record { ty_is = p.1.1.0; info_is = p.1.1.1; next_is = p.0 }; wrote = p.1.0 }
 
-pub write_block-open_block-o-requires : goal.write_block-open_block-o-requires
-write_block-open_block-o-requires t c = record { n_in_bounds = search rules; starts_are = search rules; count_in_bounds = block_room _ _ _ _ _ _ _ _ c.requires.accepted.ready _ _ c.requires.block; count_bound = block_few _ _ _ _ _ _ _ _ c.requires.accepted.ready _ _ c.requires.block }
+pub write_block-block_scope-s-requires : goal.write_block-block_scope-s-requires
+write_block-block_scope-s-requires t c = record { tabled = block_tabled _ _ _ _ _ _ _ _ c.requires.accepted _ _ c.requires.block; some = block_some _ _ _ _ _ _ _ _ c.requires.accepted _ _ c.requires.block }
 
 pub write_block-block-requires : goal.write_block-block-requires
 write_block-block-requires t c = op_small _ _ _ _ c.requires.block
@@ -33,28 +33,28 @@ pub write_block-put-requires : goal.write_block-put-requires
 write_block-put-requires t c = fits_tree _ c.requires.room
 
 pub write_block-table_recs-requires : goal.write_block-table_recs-requires
-write_block-table_recs-requires t c = let p = tables_ask _ _ _ _ _ _ _ _ c.requires.accepted c.requires.room _ _ c.requires.block _ c.open_block-o.ensures _ c.pushed-scopes.ensures c.block.ensures c.put.ensures.bytes in record { tabled = p.0; room = p.1 }
+write_block-table_recs-requires t c = let p = tables_ask _ _ _ _ _ _ _ _ c.requires.accepted c.requires.room _ _ c.requires.block _ c.block_scope-s.ensures _ c.pushed-scopes.ensures c.block.ensures c.put.ensures.bytes in record { tabled = p.0; room = p.1 }
 
 pub write_block-overflow_add-first-2 : goal.write_block-overflow_add-first-2
 write_block-overflow_add-first-2 t c = let h = block_next _ _ _ _ _ _ _ _ c.requires.accepted.ready _ _ c.requires.block in omega arith
 
 pub write_block-write_d-x-requires : goal.write_block-write_d-x-requires
-write_block-write_d-x-requires t c = (omega (arith, c.decreases, c.requires.accepted.ready.left), where_asks _ _ _ _ _ _ _ _ c.requires.accepted c.requires.room _ _ c.requires.block _ c.open_block-o.ensures _ c.pushed-scopes.ensures c.block.ensures c.put.ensures.bytes c.table_recs.ensures)
+write_block-write_d-x-requires t c = (omega (arith, c.decreases, c.requires.accepted.ready.left), where_asks _ _ _ _ _ _ _ _ c.requires.accepted c.requires.room _ _ c.requires.block _ c.block_scope-s.ensures _ c.pushed-scopes.ensures c.block.ensures c.put.ensures.bytes c.table_recs.ensures)
 
 pub write_block-exists_info-requires : goal.write_block-exists_info-requires
-write_block-exists_info-requires t c = block_asks _ _ _ _ _ _ _ _ c.requires.accepted c.requires.room _ _ c.requires.block _ c.open_block-o.ensures _ c.pushed-scopes.ensures c.block.ensures c.put.ensures.bytes
+write_block-exists_info-requires t c = block_asks _ _ _ _ _ _ _ _ c.requires.accepted c.requires.room _ _ c.requires.block _ c.block_scope-s.ensures _ c.pushed-scopes.ensures c.block.ensures c.put.ensures.bytes
 
 pub write_block-write_d-y-requires : goal.write_block-write_d-y-requires
-write_block-write_d-y-requires t c = (omega (arith, c.decreases, c.requires.accepted.ready.left), single_asks _ _ _ _ _ _ _ _ c.requires.accepted c.requires.room _ _ c.requires.block _ c.open_block-o.ensures _ c.pushed-scopes.ensures c.block.ensures c.put.ensures.bytes c.table_recs.ensures c.write_d-x.result c.write_d-x.ensures.told.next_is c.write_d-x.ensures.wrote c.in-Values.is)
+write_block-write_d-y-requires t c = (omega (arith, c.decreases, c.requires.accepted.ready.left), single_asks _ _ _ _ _ _ _ _ c.requires.accepted c.requires.room _ _ c.requires.block _ c.block_scope-s.ensures _ c.pushed-scopes.ensures c.block.ensures c.put.ensures.bytes c.table_recs.ensures c.write_d-x.result c.write_d-x.ensures.told.next_is c.write_d-x.ensures.wrote c.in-Values.is)
 
 pub write_block-single_info-requires : goal.write_block-single_info-requires
-write_block-single_info-requires t c = block_asks _ _ _ _ _ _ _ _ c.requires.accepted c.requires.room _ _ c.requires.block _ c.open_block-o.ensures _ c.pushed-scopes.ensures c.block.ensures c.put.ensures.bytes
+write_block-single_info-requires t c = block_asks _ _ _ _ _ _ _ _ c.requires.accepted c.requires.room _ _ c.requires.block _ c.block_scope-s.ensures _ c.pushed-scopes.ensures c.block.ensures c.put.ensures.bytes
 
 pub write_block-returns-in-Rows : goal.write_block-returns-in-Rows
-write_block-returns-in-Rows t c = parts (exists_done _ _ _ _ _ _ _ _ c.requires.accepted c.requires.room _ _ c.requires.block _ c.open_block-o.ensures _ c.pushed-scopes.ensures c.block.ensures c.put.ensures.bytes c.table_recs.ensures c.write_d-x.result c.write_d-x.ensures.told.next_is c.write_d-x.ensures.wrote c.in-Rows.is c.fold_type.ensures c.write_d-x.ensures.told.info_is c.exists_info.ensures)
+write_block-returns-in-Rows t c = parts (exists_done _ _ _ _ _ _ _ _ c.requires.accepted c.requires.room _ _ c.requires.block _ c.block_scope-s.ensures _ c.pushed-scopes.ensures c.block.ensures c.put.ensures.bytes c.table_recs.ensures c.write_d-x.result c.write_d-x.ensures.told.next_is c.write_d-x.ensures.wrote c.in-Rows.is c.fold_type.ensures c.write_d-x.ensures.told.info_is c.exists_info.ensures)
 
 pub write_block-returns-in-Values : goal.write_block-returns-in-Values
-write_block-returns-in-Values t c = parts (single_done _ _ _ _ _ _ _ _ c.requires.accepted c.requires.room _ _ c.requires.block _ c.open_block-o.ensures _ c.pushed-scopes.ensures c.block.ensures c.put.ensures.bytes c.table_recs.ensures c.write_d-x.result c.write_d-x.ensures.told.next_is c.write_d-x.ensures.wrote c.in-Values.is c.write_d-y.ensures.told.next_is c.write_d-y.ensures.wrote c.write_d-y.ensures.told.ty_is c.write_d-x.ensures.told.info_is c.write_d-y.ensures.told.info_is c.single_info.ensures)
+write_block-returns-in-Values t c = parts (single_done _ _ _ _ _ _ _ _ c.requires.accepted c.requires.room _ _ c.requires.block _ c.block_scope-s.ensures _ c.pushed-scopes.ensures c.block.ensures c.put.ensures.bytes c.table_recs.ensures c.write_d-x.result c.write_d-x.ensures.told.next_is c.write_d-x.ensures.wrote c.in-Values.is c.write_d-y.ensures.told.next_is c.write_d-y.ensures.wrote c.write_d-y.ensures.told.ty_is c.write_d-x.ensures.told.info_is c.write_d-y.ensures.told.info_is c.single_info.ensures)
 
 pub write_d-sound_at-requires : goal.write_d-sound_at-requires
 write_d-sound_at-requires t c = record { i_in_bounds = search rules; i_value = (here_ok _ _ _ _ c.requires.accepted.ready.is_read).slot }
@@ -117,7 +117,7 @@ pub write_d-returns-in-Const : goal.write_d-returns-in-Const
 write_d-returns-in-Const t c = parts (const_done _ _ _ _ _ _ _ _ c.requires.accepted _ c.sound_at.ensures c.requires.room c.in-Const.is (writes_as c.constant.ensures c.put.ensures.bytes))
 
 pub write_d-returns-in-Binop : goal.write_d-returns-in-Binop
-write_d-returns-in-Binop t c = parts (binop_done _ _ _ _ _ _ _ _ c.requires.accepted _ c.sound_at.ensures c.requires.room c.in-Binop.is c.write_d-x.result c.write_d-x.ensures.told.next_is c.write_d-x.ensures.wrote c.write_d-y.result c.write_d-y.ensures.told.next_is c.write_d-y.ensures.wrote c.write_d-x.ensures.told.ty_is c.write_d-y.ensures.told.ty_is c.binop_type-ty.ensures c.digits_of-digits.ensures c.put_record.ensures refl refl c.write_d-x.ensures.told.info_is c.write_d-y.ensures.told.info_is c.join.ensures)
+write_d-returns-in-Binop t c = parts (binop_done _ _ _ _ _ _ _ _ c.requires.accepted _ c.sound_at.ensures c.requires.room c.in-Binop.is c.write_d-x.result c.write_d-x.ensures.told.next_is c.write_d-x.ensures.wrote c.write_d-y.result c.write_d-y.ensures.told.next_is c.write_d-y.ensures.wrote c.write_d-x.ensures.told.ty_is c.write_d-y.ensures.told.ty_is (type_or _ c.binop.ensures c.unwrap_or-ty.ensures) (c.from-digits.ensures ∙ c.digits.ensures) c.put_record.ensures refl refl c.write_d-x.ensures.told.info_is c.write_d-y.ensures.told.info_is c.join.ensures)
 
 pub write_d-returns-in-Not : goal.write_d-returns-in-Not
 write_d-returns-in-Not t c = parts (not_done _ _ _ _ _ _ _ _ c.requires.accepted _ c.sound_at.ensures c.requires.room c.in-Not.is c.put-in-Not.ensures.bytes c.write_d.ensures.told.next_is c.write_d.ensures.wrote c.write_d.ensures.told.ty_is c.write_d.ensures.told.info_is)

@@ -11,6 +11,12 @@ use Rattle.label.proofs.select.write_pairs.Goals as goal
 pub loop-j-init : goal.loop-j-init
 loop-j-init c = let z : c.args.count - 0 ≡ c.args.count = omega arith in rw z (record { there = c.requires.accepts; left = c.requires.left_all; rests = rests_begin c.requires.room })
 
+pub offset_bounds-ends-j : goal.offset_bounds-ends-j
+offset_bounds-ends-j c = let h = (pair_left _ _ _ _ _ _ _ _ _ _ c.loop-j.invariant (let h = c.loop-j-test.true in omega arith)).ends_long in search rules
+
+pub bounds-ends-j : goal.bounds-ends-j
+bounds-ends-j c = let h = (pair_left _ _ _ _ _ _ _ _ _ _ c.loop-j.invariant (let h = c.loop-j-test.true in omega arith)).ends_long in search rules
+
 pub write_noted-requires : goal.write_noted-requires
 write_noted-requires c = record { noting = pair_noting _ _ _ _ _ _ _ _ _ _ c.loop-j.invariant (let h = c.loop-j-test.true in omega arith) c.end_in-next.ensures; room = pair_asks _ _ _ _ _ _ _ _ _ _ c.loop-j.invariant (let h = c.loop-j-test.true in omega arith) c.end_in-next.ensures }
 

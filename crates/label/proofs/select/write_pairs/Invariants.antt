@@ -7,5 +7,5 @@ use Rattle.label.proofs.select.write_pairs.Given as goal
 
 abbrev pub invariant-loop-j : goal.invariant-loop-j
 invariant-loop-j l =
-    PairsLeft l.level.cat.now l.level.starts.now l.level.view.now l.level.files l.level.scopes.now l.notes l.ends (l.count - l.j) (1 + l.j) l.m l.writer
-    (pair_bytes l.level.cat.now l.level.view.now l.level.files l.level.scopes.now l.count l.at) l.initial.writer
+    PairsLeft l.level.source.now.cat.now l.level.source.now.starts.now l.level.source.now.view.now l.level.source.now.files l.level.scopes.now l.notes l.ends (l.count - l.j) (1 + l.j) l.m l.writer
+    (pair_bytes l.level.source.now.cat.now l.level.source.now.view.now l.level.source.now.files l.level.scopes.now l.count l.at) l.initial.writer

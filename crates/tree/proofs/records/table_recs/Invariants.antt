@@ -9,5 +9,5 @@ use Rattle.tree.proofs.records.table_recs.Given as goal
 
 abbrev pub invariant-loop-j : goal.invariant-loop-j
 invariant-loop-j l =
-    Rests (table_recs (nums (drop l.j (refs_at l.level.cat.now l.level.files.nc l.level.view.now l.at l.count)))) l.writer
-    (table_recs (nums (refs_at l.level.cat.now l.level.files.nc l.level.view.now l.at l.count))) l.initial.writer
+    Rests (table_recs (nums (drop l.j (refs_at l.source.cat.now l.source.files.nc l.source.view.now l.at l.count)))) l.writer
+    (table_recs (nums (refs_at l.source.cat.now l.source.files.nc l.source.view.now l.at l.count))) l.initial.writer
