@@ -20,7 +20,7 @@ ghost use Rattle.label.specs.Found.{cell_tree, row_tree};
 ghost use Rattle.label.specs.Levels.{class_in, where_in, kept_in, row_in, valued_in, RowedIn, ValuedIn};
 
 pub use select::{measure, write_tree};
-use tree::{known_at, kinds, Level};
+use tree::{Level, kinds, known_at};
 use word::{Record, Writer};
 
 // The number of a block's last table.
@@ -80,7 +80,10 @@ pub fn write_c(level: &Level, at: usize, writer: &mut Writer, pad: &mut [u64; 10
     ensures { Writes (encode (as_tree (class_in level.now at))) writer.old writer.new }
 {
     match known_at(level, at, pad).info {
-        class::Info::Fixed(k) => writer.put(Record { a: k, ..kinds::CLASS }),
+        class::Info::Fixed(k) => writer.put(Record {
+            a: k,
+            ..kinds::CLASS
+        }),
         class::Info::Bound(_) => write_open(level, at, writer, pad),
     }
 }
@@ -145,13 +148,7 @@ fn write_binop(level: &Level, at: usize, writer: &mut Writer, pad: &mut [u64; 10
 
 // LUB of the classes of two values.
 #[cycle(write_class)]
-fn write_lub(
-    level: &Level,
-    first: usize,
-    second: usize,
-    writer: &mut Writer,
-    pad: &mut [u64; 1024],
-)
+fn write_lub(level: &Level, first: usize, second: usize, writer: &mut Writer, pad: &mut [u64; 1024])
     requires accepted_first { AcceptedIn level.now first }
     requires accepted_second { AcceptedIn level.now second }
     requires room { Fits (rec_bytes 25 0 0 0 0 ++ (encode (as_tree (class_in level.now first)) ++ encode (as_tree (class_in level.now second)))) writer.old }
@@ -210,7 +207,10 @@ fn write_choice(
     let a = known_at(level, yes, pad);
     let b = known_at(level, no, pad);
     match a.info.choose(b.info) {
-        class::Info::Fixed(k) => writer.put(Record { a: k, ..kinds::CLASS }),
+        class::Info::Fixed(k) => writer.put(Record {
+            a: k,
+            ..kinds::CLASS
+        }),
         class::Info::Bound(_) => {
             writer.put(kinds::IF);
             tree::write_d(level, test, writer, pad);
@@ -286,10 +286,16 @@ fn write_block(
     let k = scope::block_class(s, source.cat, source.files.nc);
     let test = first + tables;
     writer.put(kinds::LUB);
-    writer.put(Record { a: count, ..kinds::AGG });
+    writer.put(Record {
+        a: count,
+        ..kinds::AGG
+    });
     tree::table_recs(source, first, tables, writer);
     write_at_row(&inner, test, s, asked, writer, pad);
-    writer.put(Record { a: k, ..kinds::CLASS });
+    writer.put(Record {
+        a: k,
+        ..kinds::CLASS
+    });
 }
 
 // What is read at one row of the block of entry s, whose where stands at a record.
@@ -336,7 +342,10 @@ fn write_valued(
     let i = rows.join(x.info);
     let h = i.join(y.info.choose(class::Info::Fixed(0)));
     match h {
-        class::Info::Fixed(k) => writer.put(Record { a: k, ..kinds::CLASS }),
+        class::Info::Fixed(k) => writer.put(Record {
+            a: k,
+            ..kinds::CLASS
+        }),
         class::Info::Bound(_) => {
             writer.put(kinds::LUB);
             match i {
@@ -373,7 +382,10 @@ fn write_where(
     let i = rows::info(s, source.cat, source.files.nc, last);
     let h = i.join(x.info);
     match h {
-        class::Info::Fixed(k) => writer.put(Record { a: k, ..kinds::CLASS }),
+        class::Info::Fixed(k) => writer.put(Record {
+            a: k,
+            ..kinds::CLASS
+        }),
         class::Info::Bound(_) => {
             writer.put(kinds::LUB);
             match i {
@@ -392,13 +404,7 @@ fn write_where(
 
 // The choice, under the where at `test`, of the class of the value at a record and 0.
 #[cycle(write_class)]
-fn write_kept(
-    level: &Level,
-    test: usize,
-    value: usize,
-    writer: &mut Writer,
-    pad: &mut [u64; 1024],
-)
+fn write_kept(level: &Level, test: usize, value: usize, writer: &mut Writer, pad: &mut [u64; 1024])
     requires accepted_test { AcceptedIn level.now test }
     requires accepted_value { AcceptedIn level.now value }
     requires room { Fits (encode (as_tree (kept_in level.now test value))) writer.old }
@@ -406,7 +412,10 @@ fn write_kept(
 {
     let a = known_at(level, value, pad);
     match a.info.choose(class::Info::Fixed(0)) {
-        class::Info::Fixed(k) => writer.put(Record { a: k, ..kinds::CLASS }),
+        class::Info::Fixed(k) => writer.put(Record {
+            a: k,
+            ..kinds::CLASS
+        }),
         class::Info::Bound(_) => {
             writer.put(kinds::IF);
             tree::write_d(level, test, writer, pad);

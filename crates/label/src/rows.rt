@@ -28,7 +28,10 @@ pub fn one(s: scope::Scope, cat: &[u8], n: usize, j: usize) -> Record
     ensures { rec_of result ≡ encode (as_tree (row_item (rows_in cat.now n s) j)) }
 {
     match scope::row_info(s, cat, n, j) {
-        class::Info::Fixed(k) => Record { a: k, ..kinds::CLASS },
+        class::Info::Fixed(k) => Record {
+            a: k,
+            ..kinds::CLASS
+        },
         class::Info::Bound(_) => Record {
             b: j as u16,
             ..kinds::ROW_CLASS
@@ -48,14 +51,20 @@ pub fn write(s: scope::Scope, cat: &[u8], n: usize, j: usize, writer: &mut Write
     }
     let i = info(s, cat, n, j);
     match i {
-        class::Info::Fixed(k) => writer.put(Record { a: k, ..kinds::CLASS }),
+        class::Info::Fixed(k) => writer.put(Record {
+            a: k,
+            ..kinds::CLASS
+        }),
         class::Info::Bound(_) => {
             let before = info(s, cat, n, j - 1);
             writer.put(kinds::LUB);
             match before {
                 class::Info::Fixed(k) => {
                     writer.put(one(s, cat, n, j));
-                    writer.put(Record { a: k, ..kinds::CLASS });
+                    writer.put(Record {
+                        a: k,
+                        ..kinds::CLASS
+                    });
                 }
                 class::Info::Bound(_) => {
                     write(s, cat, n, j - 1, writer);

@@ -16,7 +16,7 @@ ghost use Rattle.label.specs.Rows.{row_item, rows_in};
 ghost use Rattle.label.specs.Whole.{flat, test_bytes, test_size, classes_in, dom_bytes};
 
 use crate::{rows, write_open};
-use tree::{kinds, Level};
+use tree::{Level, kinds};
 use word::{Record, Writer};
 
 // The op of BINOP `and`.
@@ -27,9 +27,15 @@ fn write_dom(q: u16, writer: &mut Writer)
     requires { Fits (dom_bytes q) writer.old }
     ensures { Writes (dom_bytes q) writer.old writer.new }
 {
-    writer.put(Record { op: AND, ..kinds::BINOP });
+    writer.put(Record {
+        op: AND,
+        ..kinds::BINOP
+    });
     writer.put(kinds::DOM);
-    writer.put(Record { a: q, ..kinds::CLASS });
+    writer.put(Record {
+        a: q,
+        ..kinds::CLASS
+    });
 }
 
 // The test of a fixed class, left out where q dominates it.
@@ -41,7 +47,10 @@ fn write_fixed_test(q: u16, k: u16, writer: &mut Writer)
         return;
     }
     write_dom(q, writer);
-    writer.put(Record { a: k, ..kinds::CLASS });
+    writer.put(Record {
+        a: k,
+        ..kinds::CLASS
+    });
 }
 
 // The test of the row class of table j.
@@ -58,14 +67,7 @@ fn write_row_test(s: scope::Scope, cat: &[u8], n: usize, j: usize, q: u16, write
 }
 
 // The tests of so many tables.
-fn write_tests(
-    s: scope::Scope,
-    cat: &[u8],
-    n: usize,
-    q: u16,
-    count: usize,
-    writer: &mut Writer,
-)
+fn write_tests(s: scope::Scope, cat: &[u8], n: usize, q: u16, count: usize, writer: &mut Writer)
     requires among { (8 + 8 * n ≤ length cat.now) × Among n s × (count ≤ 4) }
     requires room { Fits (test_bytes q (classes_in cat.now n s) (rows_in cat.now n s) 0 count) writer.old }
     ensures { Writes (test_bytes q (classes_in cat.now n s) (rows_in cat.now n s) 0 count) writer.old writer.new }
@@ -90,7 +92,10 @@ fn write_known(
     ensures { Writes (encode (as_tree (class_in level.now at))) writer.old writer.new }
 {
     match info {
-        class::Info::Fixed(k) => writer.put(Record { a: k, ..kinds::CLASS }),
+        class::Info::Fixed(k) => writer.put(Record {
+            a: k,
+            ..kinds::CLASS
+        }),
         class::Info::Bound(_) => write_open(level, at, writer, pad),
     }
 }
@@ -203,7 +208,15 @@ fn write_file(
     let first = end_in(end);
     write_where_test(&level, 1 + m, known_in(end), q, writer, &mut pad);
     tree::write_noted(view, notes, 1 + m, first, writer);
-    write_pairs(&level, first, values as usize, notes, ends, writer, &mut pad);
+    write_pairs(
+        &level,
+        first,
+        values as usize,
+        notes,
+        ends,
+        writer,
+        &mut pad,
+    );
 }
 
 /// The whole tree of an accepted view, under clearance q, with the notes and ends that were left of it, into a buffer that has room for its `count` records.

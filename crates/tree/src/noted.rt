@@ -29,7 +29,10 @@ fn put_mark(m: u8, writer: &mut Writer)
     if m == 0 {
         return;
     }
-    writer.put(Record { op: m, ..kinds::CONV });
+    writer.put(Record {
+        op: m,
+        ..kinds::CONV
+    });
 }
 
 // COL by its note: DATA or LOCAL.

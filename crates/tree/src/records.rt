@@ -117,7 +117,15 @@ pub fn block_scope(source: &resolve::Source, at: usize, count: usize) -> scope::
     ensures { fine result ≡ opened_in source.now at count }
 {
     let files = source.files;
-    let Ok(s) = scope::open_block(source.cat, files.nc, source.starts, files.tables, source.view, at, count) else {
+    let Ok(s) = scope::open_block(
+        source.cat,
+        files.nc,
+        source.starts,
+        files.tables,
+        source.view,
+        at,
+        count,
+    ) else {
         return scope::local_scope(0, cell::Type::Null, class::Info::Fixed(0));
     };
     s
@@ -131,9 +139,19 @@ pub fn table_recs(source: &resolve::Source, at: usize, count: usize, writer: &mu
 {
     let files = source.files;
     for j in 0..count {
-        let Some(k) = scope::table_number(source.cat, files.nc, source.starts, files.tables, source.view, at + j) else {
+        let Some(k) = scope::table_number(
+            source.cat,
+            files.nc,
+            source.starts,
+            files.tables,
+            source.view,
+            at + j,
+        ) else {
             return;
         };
-        writer.put(Record { a: k as u16, ..kinds::TABLE });
+        writer.put(Record {
+            a: k as u16,
+            ..kinds::TABLE
+        });
     }
 }
