@@ -206,7 +206,8 @@ fn block(
     asked: Asked,
     notes: &mut [u64; 1024],
 ) -> Result<Known, Refusal>
-    requires { ReadyIn source.now held.old deep depth at × (node_at source.now.view.now at ≡ block_node asked count) }
+    requires ready { ReadyIn source.now held.old deep depth at }
+    requires node { node_at source.now.view.now at ≡ block_node asked count }
     ensures value { said result ≡ answer_in source.now held.old deep depth at }
     ensures noted_by { NotedBy (tables_in source.now) (scopes_in source.now held.old deep) (value_in source.now depth at) at notes.old notes.new }
     ensures held_unchanged { held.new ≡ held.old }

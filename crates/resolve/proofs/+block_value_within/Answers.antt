@@ -10,61 +10,61 @@ use Rattle.resolve.proofs.NotedBlocks.{exists_noted, single_noted}
 use Rattle.resolve.proofs.+block_value_within.Goals as goal
 
 pub block-open_block-requires-clause-count_in_bounds : goal.block-open_block-requires-clause-count_in_bounds
-block-open_block-requires-clause-count_in_bounds t c = block_room _ _ _ _ _ _ _ _ c.requires.0 _ _ c.requires.1
+block-open_block-requires-clause-count_in_bounds t c = block_room _ _ _ _ _ _ _ _ c.requires.ready _ _ c.requires.node
 
 pub block-open_block-requires-clause-count_bound : goal.block-open_block-requires-clause-count_bound
-block-open_block-requires-clause-count_bound t c = block_few _ _ _ _ _ _ _ _ c.requires.0 _ _ c.requires.1
+block-open_block-requires-clause-count_bound t c = block_few _ _ _ _ _ _ _ _ c.requires.ready _ _ c.requires.node
 
 pub block-returns-in_err-own-clause-value : goal.block-returns-in_err-own-clause-value
-block-returns-in_err-own-clause-value t c = passed _ _ c.from_residual.ensures.1 ∙ block_6 _ _ _ _ _ _ _ _ c.requires.0 _ _ c.requires.1 _ _ c.in_err-own.ensures
+block-returns-in_err-own-clause-value t c = passed _ _ c.from_residual.ensures.1 ∙ block_6 _ _ _ _ _ _ _ _ c.requires.ready _ _ c.requires.node _ _ c.in_err-own.ensures
 
 pub block-returns-in_err-own-clause-noted_by : goal.block-returns-in_err-own-clause-noted_by
-block-returns-in_err-own-clause-noted_by t c = unnoted _ _ _ _ _ _ _ _ _ _ (block_6 _ _ _ _ _ _ _ _ c.requires.0 _ _ c.requires.1 _ _ c.in_err-own.ensures)
+block-returns-in_err-own-clause-noted_by t c = unnoted _ _ _ _ _ _ _ _ _ _ (block_6 _ _ _ _ _ _ _ _ c.requires.ready _ _ c.requires.node _ _ c.in_err-own.ensures)
 
 pub block-tables-requires-clause-tabled : goal.block-tables-requires-clause-tabled
-block-tables-requires-clause-tabled t c = block_tabled _ _ _ _ _ _ _ _ c.requires.0 _ _ c.requires.1 _ c.in_ok-own.ensures
+block-tables-requires-clause-tabled t c = block_tabled _ _ _ _ _ _ _ _ c.requires.ready _ _ c.requires.node _ c.in_ok-own.ensures
 
 pub block-tables-requires-clause-count_bound : goal.block-tables-requires-clause-count_bound
-block-tables-requires-clause-count_bound t c = block_next _ _ _ _ _ _ _ _ c.requires.0 _ _ c.requires.1
+block-tables-requires-clause-count_bound t c = block_next _ _ _ _ _ _ _ _ c.requires.ready _ _ c.requires.node
 
 pub block-overflow_add-next-2 : goal.block-overflow_add-next-2
-block-overflow_add-next-2 t c = let h = block_next _ _ _ _ _ _ _ _ c.requires.0 _ _ c.requires.1 in omega arith
+block-overflow_add-next-2 t c = let h = block_next _ _ _ _ _ _ _ _ c.requires.ready _ _ c.requires.node in omega arith
 
 pub block-within-requires : goal.block-within-requires
-block-within-requires t c = ((let z = c.decreases in let l = c.requires.0.left in omega arith), where_ready _ _ _ _ _ _ _ _ c.requires.0 _ _ c.requires.1 _ c.in_ok-own.ensures _ refl)
+block-within-requires t c = ((let z = c.decreases in let l = c.requires.ready.left in omega arith), where_ready _ _ _ _ _ _ _ _ c.requires.ready _ _ c.requires.node _ c.in_ok-own.ensures _ refl)
 
 pub block-returns-in_err-test-clause-value : goal.block-returns-in_err-test-clause-value
-block-returns-in_err-test-clause-value t c = passed _ _ c.from_residual-in_err-test.ensures.1 ∙ where_refused _ _ _ _ _ _ _ _ c.requires.0 _ _ c.requires.1 _ c.in_ok-own.ensures _ refl _ c.in_err-test.ensures.value _ _ refl
+block-returns-in_err-test-clause-value t c = passed _ _ c.from_residual-in_err-test.ensures.1 ∙ where_refused _ _ _ _ _ _ _ _ c.requires.ready _ _ c.requires.node _ c.in_ok-own.ensures _ refl _ c.in_err-test.ensures.value _ _ refl
 
 pub block-returns-in_err-test-clause-noted_by : goal.block-returns-in_err-test-clause-noted_by
-block-returns-in_err-test-clause-noted_by t c = unnoted _ _ _ _ _ _ _ _ _ _ (where_refused _ _ _ _ _ _ _ _ c.requires.0 _ _ c.requires.1 _ c.in_ok-own.ensures _ refl _ c.in_err-test.ensures.value _ _ refl)
+block-returns-in_err-test-clause-noted_by t c = unnoted _ _ _ _ _ _ _ _ _ _ (where_refused _ _ _ _ _ _ _ _ c.requires.ready _ _ c.requires.node _ c.in_ok-own.ensures _ refl _ c.in_err-test.ensures.value _ _ refl)
 
 pub block-within-requires-in-Values : goal.block-within-requires-in-Values
-block-within-requires-in-Values t c = ((let z = c.decreases in let l = c.requires.0.left in omega arith), rw (c.from-then.ensures, c.within.ensures.held_unchanged) (value_ready _ _ _ _ _ _ _ _ c.requires.0 _ _ c.requires.1 _ c.in_ok-own.ensures _ refl _ c.in_ok-test.ensures.value _ refl _ c.in-Values.is))
+block-within-requires-in-Values t c = ((let z = c.decreases in let l = c.requires.ready.left in omega arith), rw (c.from-then.ensures, c.within.ensures.held_unchanged) (value_ready _ _ _ _ _ _ _ _ c.requires.ready _ _ c.requires.node _ c.in_ok-own.ensures _ refl _ c.in_ok-test.ensures.value _ refl _ c.in-Values.is))
 
 pub block-returns-in_err-each-in-Values-clause-value : goal.block-returns-in_err-each-in-Values-clause-value
-block-returns-in_err-each-in-Values-clause-value t c = passed _ _ c.from_residual-in_err-each-in-Values.ensures.1 ∙ value_refused _ _ _ _ _ _ _ _ c.requires.0 _ _ c.requires.1 _ c.in_ok-own.ensures _ refl _ c.in_ok-test.ensures.value _ refl _ c.in-Values.is _ (rw (c.from-then.ensures, c.within.ensures.held_unchanged) at c.in_err-each-in-Values.ensures.value) _ _ refl
+block-returns-in_err-each-in-Values-clause-value t c = passed _ _ c.from_residual-in_err-each-in-Values.ensures.1 ∙ value_refused _ _ _ _ _ _ _ _ c.requires.ready _ _ c.requires.node _ c.in_ok-own.ensures _ refl _ c.in_ok-test.ensures.value _ refl _ c.in-Values.is _ (rw (c.from-then.ensures, c.within.ensures.held_unchanged) at c.in_err-each-in-Values.ensures.value) _ _ refl
 
 pub block-returns-in_err-each-in-Values-clause-noted_by : goal.block-returns-in_err-each-in-Values-clause-noted_by
-block-returns-in_err-each-in-Values-clause-noted_by t c = unnoted _ _ _ _ _ _ _ _ _ _ (value_refused _ _ _ _ _ _ _ _ c.requires.0 _ _ c.requires.1 _ c.in_ok-own.ensures _ refl _ c.in_ok-test.ensures.value _ refl _ c.in-Values.is _ (rw (c.from-then.ensures, c.within.ensures.held_unchanged) at c.in_err-each-in-Values.ensures.value) _ _ refl)
+block-returns-in_err-each-in-Values-clause-noted_by t c = unnoted _ _ _ _ _ _ _ _ _ _ (value_refused _ _ _ _ _ _ _ _ c.requires.ready _ _ c.requires.node _ c.in_ok-own.ensures _ refl _ c.in_ok-test.ensures.value _ refl _ c.in-Values.is _ (rw (c.from-then.ensures, c.within.ensures.held_unchanged) at c.in_err-each-in-Values.ensures.value) _ _ refl)
 
 pub block-returns-in-Rows-clause-value : goal.block-returns-in-Rows-clause-value
-block-returns-in-Rows-clause-value t c = exists_done _ _ _ _ _ _ _ _ c.requires.0 _ _ c.requires.1 _ c.in_ok-own.ensures _ refl _ c.in_ok-test.ensures.value _ refl _ _ c.in-Rows.is c.exists.ensures
+block-returns-in-Rows-clause-value t c = exists_done _ _ _ _ _ _ _ _ c.requires.ready _ _ c.requires.node _ c.in_ok-own.ensures _ refl _ c.in_ok-test.ensures.value _ refl _ _ c.in-Rows.is c.exists.ensures
 
 pub block-returns-in-Rows-clause-noted_by : goal.block-returns-in-Rows-clause-noted_by
-block-returns-in-Rows-clause-noted_by t c = exists_noted _ _ _ _ _ _ _ _ c.requires.0 _ _ c.requires.1 _ c.in_ok-own.ensures _ refl _ _ _ _ c.note.ensures c.tables.ensures c.within.ensures.noted_by _ c.in-Rows.is
+block-returns-in-Rows-clause-noted_by t c = exists_noted _ _ _ _ _ _ _ _ c.requires.ready _ _ c.requires.node _ c.in_ok-own.ensures _ refl _ _ _ _ c.note.ensures c.tables.ensures c.within.ensures.noted_by _ c.in-Rows.is
 
 pub block-returns-in_ok-each-in-Values-clause-value : goal.block-returns-in_ok-each-in-Values-clause-value
-block-returns-in_ok-each-in-Values-clause-value t c = single_done _ _ _ _ _ _ _ _ c.requires.0 _ _ c.requires.1 _ c.in_ok-own.ensures _ refl _ c.in_ok-test.ensures.value _ refl _ c.in-Values.is _ (rw (c.from-then.ensures, c.within.ensures.held_unchanged) at c.in_ok-each-in-Values.ensures.value) _ _ refl c.single.ensures
+block-returns-in_ok-each-in-Values-clause-value t c = single_done _ _ _ _ _ _ _ _ c.requires.ready _ _ c.requires.node _ c.in_ok-own.ensures _ refl _ c.in_ok-test.ensures.value _ refl _ c.in-Values.is _ (rw (c.from-then.ensures, c.within.ensures.held_unchanged) at c.in_ok-each-in-Values.ensures.value) _ _ refl c.single.ensures
 
 pub block-returns-in_ok-each-in-Values-clause-noted_by : goal.block-returns-in_ok-each-in-Values-clause-noted_by
-block-returns-in_ok-each-in-Values-clause-noted_by t c = single_noted _ _ _ _ _ _ _ _ c.requires.0 _ _ c.requires.1 _ c.in_ok-own.ensures _ refl _ _ _ _ c.note.ensures c.tables.ensures c.within.ensures.noted_by _ c.in_ok-test.ensures.value _ refl _ (rw (c.from-then.ensures, c.within.ensures.held_unchanged) at c.within-in-Values.ensures.noted_by) _ c.in-Values.is
+block-returns-in_ok-each-in-Values-clause-noted_by t c = single_noted _ _ _ _ _ _ _ _ c.requires.ready _ _ c.requires.node _ c.in_ok-own.ensures _ refl _ _ _ _ c.note.ensures c.tables.ensures c.within.ensures.noted_by _ c.in_ok-test.ensures.value _ refl _ (rw (c.from-then.ensures, c.within.ensures.held_unchanged) at c.within-in-Values.ensures.noted_by) _ c.in-Values.is
 
 pub block-invariant_of-opened : goal.block-invariant_of-opened
-block-invariant_of-opened t c = record { opening = block_opening _ _ _ _ _ _ _ _ c.requires.0 _ _ c.requires.1 _ c.in_ok-own.ensures }
+block-invariant_of-opened t c = record { opening = block_opening _ _ _ _ _ _ _ _ c.requires.ready _ _ c.requires.node _ c.in_ok-own.ensures }
 
 pub block-invariant_of-opened-in-Values : goal.block-invariant_of-opened-in-Values
-block-invariant_of-opened-in-Values t c = record { opening = block_opening _ _ _ _ _ _ _ _ c.requires.0 _ _ c.requires.1 _ c.in_ok-own.ensures }
+block-invariant_of-opened-in-Values t c = record { opening = block_opening _ _ _ _ _ _ _ _ c.requires.ready _ _ c.requires.node _ c.in_ok-own.ensures }
 
 pub value-sound_at-requires-clause-i_value : goal.value-sound_at-requires-clause-i_value
 value-sound_at-requires-clause-i_value t c = (here_ok _ _ _ _ c.requires.is_read).slot
