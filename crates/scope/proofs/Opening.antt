@@ -10,20 +10,14 @@ use borrow.Author.Rules.{rules}
 use lib.ListN.{get_or, length, set}
 use Rattle.word.specs.Buffer.{put}
 use Rattle.word.specs.Refusal.{Checked, fine, refusal}
-use Rattle.cell.specs.Res.{Res}
-use Rattle.catalogue.specs.Tables.{Table, TabRef, table_at, tables_from, table_named}
+use Rattle.catalogue.specs.Tables.{TabRef, table_at, tables_from, table_named}
 use Rattle.catalogue.specs.Starts.{ref_of}
 use Rattle.view.specs.Record.{node_at}
 use Rattle.view.specs.Parse.{name_of, names_at}
-use Rattle.view.specs.declared.Node.{Node}
 use Rattle.scope.specs.Blocks.{Tabs, all, missing, before, found_at, tables_named}
 use Rattle.scope.specs.Entry.{block_scope, places_of, opened_by}
 use Rattle.scope.specs.declared.Scope.{Scope}
 use Rattle.scope.specs.declared.Scope.TheVariants as S
-
--- the table of a TABLE record
-pub number_found : (cat : List Table) (v : List ℕ) (p name : ℕ) (node : Node) (x : Res TabRef) → node ≡ node_at v p → name ≡ name_of node → table_named name cat ≡ x → table_named (name_of (node_at v p)) cat ≡ x
-number_found cat v p name node x e f g = rw (← e, ← f) g
 
 -- a block of which j tables are looked up, their records in ws; what is left of its tables
 unfoldable pub open_from : List ℕ → List ℕ → ℕ → Tabs → Checked Scope
@@ -67,4 +61,4 @@ module _ (c : List ℕ) (n : ℕ) (ss : List ℕ) (tables : ℕ) (v : List ℕ) 
   unfolding open_from tabs_left names_at tables_named put block_scope
   open_done ws j X x h l = let e : count - j ≡ 0 = omega arith in let f : j + 0 ≡ count = omega arith in sym (x ∙ rw (e, f))
 
-pub ruleset opens = (number_found, open_begin, open_missing, open_again, open_done, rules)
+pub ruleset opens = (open_begin, open_missing, open_again, open_done, rules)

@@ -1,6 +1,6 @@
 -- What an entry has for a name, and the search from the innermost scope outward: one law for each place of the code.
 -- Assumes nothing.
-use Prim.Native.Nat.{ℕ, zero, suc, ◌+◌, ◌-◌, ◌*◌, ◌<◌, ◌≤◌, min}
+use Prim.Native.Nat.{ℕ, zero, suc, ◌+◌, ◌-◌, ◌<◌, ◌≤◌, min}
 use mathlib.Core.Path.{◌≡◌, refl, sym, ap, ◌∙◌}
 use mathlib.Core.List.{List, [], ◌∷◌, ◌++◌}
 use native.Mathlib.Omega.{arith}
@@ -130,10 +130,6 @@ module _ (c : List ℕ) (n : ℕ) (s : Scope) (count name q a : ℕ) where
       unfolding only_by
       tabs_more e = sym (next N.Several e ∙ joined_more x _)
 
-      -- the column is one of the catalogue's records
-      pub column_room : (i : ℕ) → r ≡ N.One i → (8 + 8 * n ≤ length c) × (n ≤ 2080) → ((t < i) × (i ≤ 2080)) × (8 + 8 * i + 8 ≤ length c)
-      column_room i e l = let k = m.past i e in ((k.0, omega arith), omega arith)
-
 -- one entry, a local's
 module _ (c : List ℕ) (n : ℕ) (l : Local) (name q a : ℕ) where
   pub local_yes : q ≡ 0 → l.name ≡ name → F.Local a l.ty l.info ≡ found_in (info_in (S.Local l)) (only_of (in_scope name q a (open_of c n (S.Local l))))
@@ -153,7 +149,7 @@ pub block_whole : (c : List ℕ) (n : ℕ) (b : Block) (name q a : ℕ) (r : Fou
 unfolding open_of info_in in_scope
 block_whole c n b name q a r e = e
 
-pub ruleset entries = (tabs_begin, tabs_none, tabs_one, tabs_two, tabs_more, tabs_done, column_room, rules)
+pub ruleset entries = (tabs_begin, tabs_none, tabs_one, tabs_two, tabs_more, tabs_done, rules)
 
 -- from the innermost outward
 near_some : (is : List Info) (x y : Only Hit) → (found_of is x ≡ F.None → ⊥) → found_of is (nearest x y) ≡ found_of is x
