@@ -22,7 +22,9 @@ use word::Refusal;
 #[tactic(auto, unfolding(crate::specs::Text::line_end))]
 fn line_end(text: &[u8], at: usize) -> usize
     requires { at ≤ length text.now }
-    ensures { (result ≡ line_end text.now at) × (at ≤ result) × (result ≤ length text.now) }
+    ensures value { result ≡ line_end text.now at }
+    ensures after { at ≤ result }
+    ensures inside { result ≤ length text.now }
 {
     match text[at..].iter().position(|&byte| byte == b'\n') {
         Some(before) => at + before,
@@ -32,7 +34,8 @@ fn line_end(text: &[u8], at: usize) -> usize
 
 // Where line number j starts, counted from 0; the end of the text where it has fewer lines.
 fn line_start(text: &[u8], j: usize) -> usize
-    ensures { (result ≡ line_start text.now j 0) × (result ≤ length text.now) }
+    ensures value { result ≡ line_start text.now j 0 }
+    ensures inside { result ≤ length text.now }
 {
     let mut at = 0;
     for _ in 0..j {
@@ -44,8 +47,11 @@ fn line_start(text: &[u8], j: usize) -> usize
 // The end of a line's text: a carriage return before the line end is no part of it.
 #[tactic(auto, unfolding(crate::specs::Text::line_close))]
 fn line_close(text: &[u8], start: usize, end: usize) -> usize
-    requires { (start ≤ end) × (end ≤ length text.now) }
-    ensures { (result ≡ line_close text.now start end) × (start ≤ result) × (result ≤ end) }
+    requires ordered { start ≤ end }
+    requires inside { end ≤ length text.now }
+    ensures value { result ≡ line_close text.now start end }
+    ensures after { start ≤ result }
+    ensures before { result ≤ end }
 {
     if start < end && text[end - 1] == b'\r' {
         end - 1

@@ -5,4 +5,4 @@ use Rattle.cases.specs.Digest.{pattern}
 use Rattle.cases.proofs.fill.Given as goal
 
 abbrev pub invariant-loop-i : goal.invariant-loop-i
-invariant-loop-i l = (length l.buf ≡ length l.initial.buf) × (take l.i l.buf ≡ pattern l.i)
+invariant-loop-i l = record { long : length l.buf ≡ length l.initial.buf; same : take l.i l.buf ≡ pattern l.i }

@@ -10,10 +10,10 @@ pub returns-in-Some : goal.returns-in-Some
 returns-in-Some c =
     let found = position_from_yields_List (λ b. eqb b 10) _ _ _ c.position.ensures.ran (YieldsList-from_slice _ c.iter.ensures.rest) (λ x b q k. search (rules, tests)) in
     let here = rw c.in-Some.is at (end_found c.args.text.now c.args.at c.position.result c.requires _ refl found) in
-    (here.0, omega arith, omega (arith, here.1))
+    record { value = here.0; after = omega arith; inside = omega (arith, here.1) }
 
 pub returns-in-None : goal.returns-in-None
 returns-in-None c =
     let found = position_from_yields_List (λ b. eqb b 10) _ _ _ c.position.ensures.ran (YieldsList-from_slice _ c.iter.ensures.rest) (λ x b q k. search (rules, tests)) in
     let here = rw c.in-None.is at (end_found c.args.text.now c.args.at c.position.result c.requires _ refl found) in
-    (here, omega arith, omega arith)
+    record { value = here; after = omega arith; inside = omega arith }

@@ -8,4 +8,4 @@ pub loop-preserved : goal.loop-preserved
 loop-preserved c = search (start_further, rules)
 
 pub returns : goal.returns
-returns c = (sym (start_done _ _ _ _ c.loop-test.false) ∙ c.loop.invariant.1, c.loop.invariant.0)
+returns c = record { value = sym (start_done _ _ _ _ c.loop-test.false) ∙ c.loop.invariant.same; inside = c.loop.invariant.inside }

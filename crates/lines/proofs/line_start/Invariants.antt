@@ -5,4 +5,4 @@ use Rattle.lines.specs.Text.{line_start}
 use Rattle.lines.proofs.line_start.Given as goal
 
 abbrev pub invariant-loop : goal.invariant-loop
-invariant-loop l = (l.at ≤ length l.text) × (line_start l.text (l.j - l.counter) l.at ≡ line_start l.text l.j 0)
+invariant-loop l = record { inside : l.at ≤ length l.text; same : line_start l.text (l.j - l.counter) l.at ≡ line_start l.text l.j 0 }
