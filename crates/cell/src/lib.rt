@@ -9,11 +9,7 @@ mod types;
 
 pub use numbers::power_of_ten;
 pub use op::{NoOp, Op};
-pub use operators::{apply, as_cond, convert, is_null, negate, settled};
-pub use types::{
-    binop_type, digits_of, digits_rule, format_of, kind_of, limb_type, same_type, scale_of,
-    type_by, type_rule,
-};
+pub use types::{digits_rule, type_by, type_rule};
 
 /// The type of a value: a fixed one's digits and scale, the format of a time or an interval.
 #[derive(Clone, Copy, PartialEq, Eq, Debug)]

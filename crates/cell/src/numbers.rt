@@ -9,7 +9,7 @@ ghost use Rattle.cell.specs.Apply.{cut_fixed, cut_interval, cut_time, order_z, s
 
 use crate::{Op, Value};
 
-// Stays: a table, and no `pow`, whose loop takes 6 ns a call: half as much again for the check of a store, which asks at each cell.
+// Stays: a table, and no `pow`, which proves but whose loop takes 6 ns a call.
 /// 10 to a power that 64 bits hold.
 pub fn power_of_ten(exponent: u8) -> u64
     requires { exponent < 20 }

@@ -5,14 +5,14 @@
 ghost use Rattle.std.specs.Prelude.{◌≡◌, cond, not, ◌≤◌, max, eqb};
 ghost use Rattle.cell.specs.Res.{bind, done, option_of, stuck};
 ghost use Rattle.cell.specs.Op.{number_of};
-ghost use Rattle.cell.specs.Values.{is_null, outcome_of, test_of};
+ghost use Rattle.cell.specs.Values.{is_null};
 ghost use Rattle.cell.specs.Apply.{apply, as_cond, convert, cut_fixed, cut_interval, cut_time, equal_n, equal_v, equal_z, logic_v, negate, or_null, order_n, order_takes, order_z, product_fixed, product_interval, product_n, product_takes, ruled, settled, sum_n, sum_takes, sum_z, up_to};
 ghost use Rattle.cell.specs.declared.Value.TheVariants.{Fixed};
 
 use crate::numbers::{
     cut_fixed, cut_interval, cut_time, in_order, product_cut, raised, rescaled, scaled_cut, total,
 };
-use crate::{Op, Outcome, Test, Value};
+use crate::{Op, Value};
 
 impl Value {
     /// Whether it is null.
@@ -256,63 +256,5 @@ impl Value {
             )),
             _ => None,
         }
-    }
-}
-
-// Whether a value is null.
-pub fn is_null(v: Value) -> bool
-    ensures { result ≡ is_null v }
-{
-    v.is_null()
-}
-
-// Whether the left operand of and, or decides alone.
-pub fn settled(op: u8, u: Value) -> bool
-    ensures { result ≡ settled op u }
-{
-    u.settles(op)
-}
-
-// The operator op on two values; p is the number of digits of a fixed result.
-#[tactic(auto, using(crate::proofs::Options::options), unfolding(crate::specs::Values::outcome_of))]
-pub fn apply(op: u8, p: u8, u: Value, v: Value) -> Outcome
-    ensures { result ≡ outcome_of (apply op p u v) }
-{
-    match Value::apply(op, p, u, v) {
-        Some(value) => Outcome::Is(value),
-        None => Outcome::Stuck,
-    }
-}
-
-// NOT.
-#[tactic(auto, using(crate::proofs::Options::options), unfolding(crate::specs::Values::outcome_of))]
-pub fn negate(u: Value) -> Outcome
-    ensures { result ≡ outcome_of (negate u) }
-{
-    match u.negate() {
-        Some(value) => Outcome::Is(value),
-        None => Outcome::Stuck,
-    }
-}
-
-// Whether a condition is true; null isn't.
-#[tactic(auto, using(crate::proofs::Options::options), unfolding(crate::specs::Values::test_of))]
-pub fn as_cond(v: Value) -> Test
-    ensures { result ≡ test_of (as_cond v) }
-{
-    match v.is_true() {
-        Some(truth) => Test::Is(truth),
-        None => Test::Stuck,
-    }
-}
-
-// CONV to p digits at scale r.
-#[tactic(auto, using(crate::proofs::Options::options), unfolding(crate::specs::Values::outcome_of))]
-pub fn convert(p: u8, r: u8, v: Value) -> Outcome
-    ensures { result ≡ outcome_of (convert p r v) }
-{
-    match v.convert(p, r) {
-        Some(value) => Outcome::Is(value),
-        None => Outcome::Stuck,
     }
 }

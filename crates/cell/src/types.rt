@@ -4,9 +4,9 @@
 
 ghost use Rattle.std.specs.Prelude.{◌≡◌, ◌/◌, ◌%◌, ◌≤◌};
 ghost use Rattle.cell.specs.Res.{option_of};
-ghost use Rattle.cell.specs.Types.{binop_type, digits_of, digits_rule, equal_type, format_of, judged_of, kind_of, limb_type, logic_type, order_type, product_type, same_type, scale_of, sum_type, type_by, type_rule, wider_of, word_of};
+ghost use Rattle.cell.specs.Types.{binop_type, digits_of, digits_rule, equal_type, format_of, kind_of, limb_type, logic_type, order_type, product_type, same_type, scale_of, sum_type, type_by, type_rule, wider_of, word_of};
 
-use crate::{Judged, Type};
+use crate::Type;
 
 /// Whether so many digits at a scale are in rule.
 pub fn digits_rule(p: u8, s: u8) -> bool
@@ -219,63 +219,5 @@ impl Type {
             (Type::Fixed(_, _), Type::Fixed(_, _)) => Some(left.wider(right)),
             _ => if left == right { Some(left) } else { None },
         }
-    }
-}
-
-// The number of a type's kind, as the catalogue has it; 0 for null.
-pub fn kind_of(t: Type) -> u8
-    ensures { result ≡ kind_of t }
-{
-    t.kind()
-}
-
-// The digits of a fixed type; else 0.
-pub fn digits_of(t: Type) -> u8
-    ensures { result ≡ digits_of t }
-{
-    t.digits()
-}
-
-// The scale of a fixed type; else 0.
-pub fn scale_of(t: Type) -> u8
-    ensures { result ≡ scale_of t }
-{
-    t.scale()
-}
-
-// The format of a time or an interval; else 0.
-pub fn format_of(t: Type) -> u8
-    ensures { result ≡ format_of t }
-{
-    t.format()
-}
-
-// The type of BINOP op over two types.
-#[tactic(auto, using(crate::proofs::Options::options), unfolding(crate::specs::Types::judged_of))]
-pub fn binop_type(op: u8, s: Type, t: Type) -> Judged
-    ensures { result ≡ judged_of (binop_type op s t) }
-{
-    match Type::binop(op, s, t) {
-        Some(t) => Judged::Is(t),
-        None => Judged::Broken,
-    }
-}
-
-// Whether two types are equal.
-#[tactic(auto, using(crate::proofs::Equal::equal_types))]
-pub fn same_type(s: Type, t: Type) -> bool
-    ensures { result ≡ same_type s t }
-{
-    s == t
-}
-
-// The type of IF over its limbs' types.
-#[tactic(auto, using(crate::proofs::Options::options), unfolding(crate::specs::Types::judged_of))]
-pub fn limb_type(s: Type, t: Type) -> Judged
-    ensures { result ≡ judged_of (limb_type s t) }
-{
-    match Type::limb(s, t) {
-        Some(t) => Judged::Is(t),
-        None => Judged::Broken,
     }
 }
