@@ -1,7 +1,7 @@
 -- The bytes of a class from its parts, by what is known of them: fixed, join, choice, LET, block.
 -- Assumes nothing.
-use Prim.Native.Nat.{ℕ, ◌+◌, ◌≤◌}
-use mathlib.Core.Path.{◌≡◌, refl, sym, ap, subst, ◌∙◌}
+use Prim.Native.Nat.{ℕ}
+use mathlib.Core.Path.{◌≡◌, refl, sym, ap, ◌∙◌}
 use mathlib.Core.Bool.{Bool, true, false, cond}
 use mathlib.Core.List.{List, ◌++◌, append_assoc}
 use native.Mathlib.Omega.{arith}
@@ -14,7 +14,7 @@ use Rattle.catalogue.specs.Tables.{TabRef}
 use Rattle.cell.specs.Values.{number_in}
 use Rattle.view.specs.Record.{const_rec}
 use Rattle.resolve.specs.Infos.{table_class}
-use Rattle.tree.specs.Tree.{Tree, tree_const, tree_binop, tree_not, tree_if, tree_exists, tree_value, tree_data, tree_cell_class, tree_row_class, tree_local, tree_local_class, tree_conv, tree_bind, tree_bind_class, tree_lub, tree_dom, tree_agg, tree_class, size, encode, table_recs}
+use Rattle.tree.specs.Tree.{Tree, tree_if, tree_lub, tree_class, encode, table_recs}
 use Rattle.tree.specs.Trans.{Class, fixed, tree, as_tree, bound, info_of, by_info, nums, join, join_all, same_fixed, choice, let_class, row_classes, block_class}
 
 -- a Bound is no Fixed

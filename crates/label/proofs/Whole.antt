@@ -7,7 +7,6 @@ use mathlib.Core.List.{List, [], ◌∷◌, ◌++◌, map, append_assoc}
 use native.Mathlib.Omega.{arith}
 use lib.ListN.{length, get_or, drop}
 use lib.Seq.{get_or-drop, drop-drop}
-use Rattle.word.proofs.Writing.{put_nil}
 use Rattle.word.specs.Record.{rec_bytes}
 use Rattle.class.specs.Class.{dominatesb}
 use Rattle.class.specs.Info.{bound_of}

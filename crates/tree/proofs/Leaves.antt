@@ -2,19 +2,16 @@
 -- Assumes nothing.
 use Rattle.std.specs.Prelude.{Option, Some, None, unwrap_or}
 use Prim.Native.Nat.{ℕ, zero, suc, ◌+◌, ◌*◌, ◌<◌, ◌≤◌}
-use mathlib.Core.Path.{◌≡◌, refl, sym, ap, ap₂, ◌∙◌, subst}
+use mathlib.Core.Path.{◌≡◌, refl, sym, ap, ap₂, ◌∙◌}
 use mathlib.Core.Bool.{Bool, true, false}
 use mathlib.Core.List.{List, [], ◌∷◌, ◌++◌}
 use native.Mathlib.Omega.{arith}
 use native.Mathlib.Numerals.{add-one}
-use borrow.Author.Rules.{rules}
 use lib.ListN.{length, drop, drop_of_length-le}
-use Rattle.word.specs.Refusal.{fine, refusal}
+use Rattle.word.specs.Refusal.{refusal}
 use Rattle.word.specs.Record.{Record, rec_at, rec_bytes}
 use Rattle.word.specs.Writer.{Writes}
 use Rattle.word.specs.declared.writer.Writer.{Writer}
-use Rattle.class.specs.declared.Info.{Info}
-use Rattle.class.specs.declared.Info.TheVariants.{Fixed}
 use Rattle.cell.specs.Res.{Res, stuck, done, or_else, option_of, nth}
 use Rattle.cell.specs.Types.{digits_of, scale_of, same_type}
 use Rattle.cell.specs.declared.Type.{«Type» as Ty}
@@ -23,26 +20,18 @@ use Rattle.catalogue.specs.Tables.{TabRef, tables_from, table_named}
 use Rattle.catalogue.specs.Starts.{ref_of}
 use Rattle.view.specs.Parse.{name_of, names_at}
 use Rattle.view.specs.Record.{node_of, node_at, const_rec}
-use Rattle.view.specs.declared.Fold.{Fold}
 use Rattle.view.specs.declared.Fold.TheVariants as fold
-use Rattle.view.specs.declared.Pick.{Pick}
-use Rattle.view.specs.declared.Pick.TheVariants as pick
 use Rattle.view.proofs.Constants.{Small, const_again}
 use Rattle.view.proofs.Says.{exists_digits}
 use Rattle.scope.specs.Blocks.{tables_named}
 use Rattle.scope.specs.Entry.{opened_by}
 use Rattle.scope.proofs.Named.{names_length, number_again, block_fine}
-use Rattle.scope.specs.declared.Scope.{Scope}
-use Rattle.scope.specs.declared.Found.{Found}
-use Rattle.scope.specs.declared.Found.TheVariants as F
-use Rattle.resolve.specs.Claims.{answer_at, block_node, Tabled}
+use Rattle.resolve.specs.Claims.{block_node, Tabled}
 use Rattle.resolve.specs.declared.Asked.{Asked}
 use Rattle.resolve.specs.declared.Asked.TheVariants as ask
-use Rattle.resolve.specs.declared.Files.{Files}
-use Rattle.resolve.specs.declared.Known.{Known}
-use Rattle.tree.specs.Tree.{rec_of, Tree, tree_const, tree_binop, tree_not, tree_if, tree_exists, tree_value, tree_data, tree_cell_class, tree_row_class, tree_local, tree_local_class, tree_conv, tree_bind, tree_bind_class, tree_lub, tree_dom, tree_agg, size, encode, table_recs, fold_kind, fold_op, pick_kind}
+use Rattle.tree.specs.Tree.{rec_of, encode, table_recs, fold_op}
 use Rattle.tree.specs.Trans.{nums}
-use Rattle.tree.specs.Claims.{type_at, Accepted, refs_at, IsConst, const_tree, col_tree, class_tree, found_type, found_info, row_info, conv_bytes, block_kind, block_op}
+use Rattle.tree.specs.Claims.{refs_at, IsConst, const_tree, conv_bytes, block_op}
 use Rattle.tree.specs.Levels.{Fits}
 use Rattle.tree.proofs.Writers.{writes_none, writes_as, fits_as, fits_front, fits_record, Rests, rests_next, rests_as, rests_done}
 

@@ -14,7 +14,7 @@ use lib.Seq.{drop-cons}
 use Rattle.word.specs.Bytes.{within}
 use Rattle.word.specs.Writer.{Writes}
 use Rattle.word.specs.declared.writer.Writer.{Writer}
-use Rattle.word.specs.Record.{Record, kind_at, op_at, rec_at, rec_bytes}
+use Rattle.word.specs.Record.{Record, rec_at, rec_bytes}
 use Rattle.word.proofs.Laws.{length_rec}
 use Rattle.word.proofs.Writing.{writes_then}
 use Rattle.view.specs.Record.{when, bare, op_only, a_only, counts, node_of, node_at, slot_of}

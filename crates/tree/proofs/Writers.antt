@@ -10,7 +10,7 @@ use Rattle.word.specs.Record.{rec_bytes}
 use Rattle.word.specs.Writer.{Writes}
 use Rattle.word.specs.declared.writer.Writer.{Writer}
 use Rattle.word.proofs.Laws.{length_rec}
-use Rattle.word.proofs.Writing.{kept, Todo, todo_all, todo_same, todo_less, todo_none}
+use Rattle.word.proofs.Writing.{kept, Todo, todo_all, todo_less, todo_none}
 use Rattle.tree.specs.Tree.{Tree, tree_const, tree_binop, tree_not, tree_if, tree_exists, tree_value, tree_data, tree_cell_class, tree_row_class, tree_local, tree_local_class, tree_conv, tree_bind, tree_bind_class, tree_lub, tree_dom, tree_agg, size, encode}
 use Rattle.tree.specs.Levels.{Fits}
 use Rattle.tree.proofs.Sizes.{length_encode}

@@ -3,7 +3,6 @@
 use Rattle.std.specs.Prelude.{ℕ, ◌+◌, ◌≤◌, ◌≡◌, List, length}
 use Rattle.word.specs.Refusal.{Checked}
 use Rattle.word.specs.declared.writer.Writer.{Writer}
-use Rattle.class.specs.declared.Info.{Info}
 use Rattle.cell.specs.declared.Type.{«Type» as Ty}
 use Rattle.view.specs.Parse.{names_at}
 use Rattle.scope.specs.declared.Scope.{Scope}

@@ -1,8 +1,8 @@
 -- `select::write_dom` meets its contract: three records.
 -- Assumes nothing.
-use mathlib.Core.Path.{sym, ◌∙◌}
+use mathlib.Core.Path.{sym}
 use Rattle.word.proofs.Writing.{writes_then}
-use Rattle.tree.proofs.Writers.{writes_as, writes_nothing, fits_as, fits_front, fits_after, fits_record, fits_tree}
+use Rattle.tree.proofs.Writers.{writes_as, fits_as, fits_front, fits_after, fits_record}
 use Rattle.label.proofs.Whole.{dom_is}
 use Rattle.label.proofs.select.write_dom.Goals as goal
 

@@ -1,8 +1,7 @@
 -- `select::write_known` meets its contract: a CLASS record where the class is fixed, else its tree.
 -- Assumes nothing.
-use mathlib.Core.Path.{sym, ◌∙◌}
-use Rattle.word.proofs.Writing.{writes_then}
-use Rattle.tree.proofs.Writers.{writes_as, writes_nothing, fits_as, fits_front, fits_after, fits_record, fits_tree}
+use mathlib.Core.Path.{sym}
+use Rattle.tree.proofs.Writers.{writes_as, fits_as, fits_record}
 use Rattle.label.proofs.Turns.{known_fixed, known_tree}
 use Rattle.label.proofs.select.write_known.Goals as goal
 

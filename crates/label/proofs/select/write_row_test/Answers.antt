@@ -1,8 +1,8 @@
 -- `select::write_row_test` meets its contract: nothing, or four records.
 -- Assumes nothing.
-use mathlib.Core.Path.{sym, ◌∙◌}
+use mathlib.Core.Path.{sym}
 use Rattle.word.proofs.Writing.{writes_then}
-use Rattle.tree.proofs.Writers.{writes_as, writes_nothing, fits_as, fits_front, fits_after, fits_record, fits_tree}
+use Rattle.tree.proofs.Writers.{writes_as, writes_nothing, fits_as, fits_front, fits_after, fits_tree}
 use Rattle.label.proofs.Whole.{row_known, class_out_lem, class_in}
 use Rattle.label.proofs.select.write_row_test.Goals as goal
 

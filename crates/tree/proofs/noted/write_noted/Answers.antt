@@ -1,6 +1,5 @@
 -- `tree::noted::write_noted` meets its contract. The invariant: what is left of the records comes to all of them.
 -- Assumes nothing.
-use borrow.Author.Rules.{rules}
 use native.Mathlib.Omega.{arith}
 use Rattle.tree.proofs.Noting.{rest_room, rest_again, rest_done}
 use Rattle.tree.proofs.Writers.{rests_begin}
