@@ -89,34 +89,3 @@ impl Info {
         }
     }
 }
-
-// The same by functions.
-pub fn info_by(op: u8, b: u16) -> Info
-    ensures { result ≡ info_by op b }
-{
-    Info::by_op(op, b)
-}
-
-pub fn bound_of(i: Info) -> u16
-    ensures { result ≡ bound_of i }
-{
-    i.bound()
-}
-
-pub fn joined(x: Info, y: Info) -> Info
-    ensures { result ≡ join_i x y }
-{
-    x.join(y)
-}
-
-pub fn chosen(x: Info, y: Info) -> Info
-    ensures { result ≡ choice_i x y }
-{
-    x.choose(y)
-}
-
-pub fn keeps(i: Info, c: u16) -> bool
-    ensures { result ≡ info_test i c }
-{
-    i.admits(c)
-}

@@ -42,7 +42,7 @@ mod writer;
 pub use refusal::{Reason, Refusal};
 pub use writer::Writer;
 
-// The 16 bits at a place.
+/// The 16 bits at a place.
 pub fn u16_at(b: &[u8], at: usize) -> u16
     requires { at + 2 ≤ length b.now }
     ensures { result ≡ u16_at b.now at }
@@ -50,7 +50,7 @@ pub fn u16_at(b: &[u8], at: usize) -> u16
     u16::from_le_bytes([b[at], b[at + 1]])
 }
 
-// The 32 bits at a place.
+/// The 32 bits at a place.
 pub fn u32_at(b: &[u8], at: usize) -> u32
     requires { at + 4 ≤ length b.now }
     ensures { result ≡ u32_at b.now at }
@@ -83,14 +83,6 @@ pub fn i32_at(b: &[u8], at: usize) -> i32
     to_signed(u32_at(b, at))
 }
 
-// Record i, whole.
-pub fn rec_at(b: &[u8], i: usize) -> Rec
-    requires { 8 + 8 * i + 8 ≤ length b.now }
-    ensures { result ≡ rec_at b.now i }
-{
-    record_at(b, i)
-}
-
 /// Record i of a file: the eight bytes from place 8 + 8 i on.
 #[tactic(auto, unfolding(crate::specs::Record::rec_at))]
 pub fn record_at(bytes: &[u8], i: usize) -> Record
@@ -107,7 +99,8 @@ pub fn record_at(bytes: &[u8], i: usize) -> Record
     }
 }
 
-// The fields of record i.
+// Stays: these five read one field where a caller wants one, from any place of a file and without making the record (d).
+/// The kind of record i.
 pub fn kind_at(b: &[u8], i: usize) -> u8
     requires { 8 + 8 * i + 8 ≤ length b.now }
     ensures { result ≡ kind_at b.now i }
@@ -115,6 +108,7 @@ pub fn kind_at(b: &[u8], i: usize) -> u8
     b[8 + 8 * i]
 }
 
+/// The op of record i.
 pub fn op_at(b: &[u8], i: usize) -> u8
     requires { 8 + 8 * i + 8 ≤ length b.now }
     ensures { result ≡ op_at b.now i }
@@ -122,6 +116,7 @@ pub fn op_at(b: &[u8], i: usize) -> u8
     b[8 + 8 * i + 1]
 }
 
+/// The field a of record i.
 pub fn a_at(b: &[u8], i: usize) -> u16
     requires { 8 + 8 * i + 8 ≤ length b.now }
     ensures { result ≡ a_at b.now i }
@@ -129,6 +124,7 @@ pub fn a_at(b: &[u8], i: usize) -> u16
     u16_at(b, 8 + 8 * i + 2)
 }
 
+/// The field b of record i.
 pub fn b_at(b: &[u8], i: usize) -> u16
     requires { 8 + 8 * i + 8 ≤ length b.now }
     ensures { result ≡ b_at b.now i }
@@ -136,6 +132,7 @@ pub fn b_at(b: &[u8], i: usize) -> u16
     u16_at(b, 8 + 8 * i + 4)
 }
 
+/// The field c of record i.
 pub fn c_at(b: &[u8], i: usize) -> u16
     requires { 8 + 8 * i + 8 ≤ length b.now }
     ensures { result ≡ c_at b.now i }
@@ -178,14 +175,6 @@ pub fn put_record(out: &mut [u8], at: usize, value: Record) -> usize
     ensures { Wrote out.old at (rec_bytes value.kind value.op value.a value.b value.c) out.new result }
 {
     put_bytes(out, at, &value.bytes())
-}
-
-// The same by the fields.
-pub fn put_rec(out: &mut [u8], at: usize, kind: u8, op: u8, a: u16, b: u16, c: u16) -> usize
-    requires { at + 8 ≤ length out.old }
-    ensures { Wrote out.old at (rec_bytes kind op a b c) out.new result }
-{
-    put_record(out, at, Record { kind, op, a, b, c })
 }
 
 /// Whether a file opens with a header: eight bytes at least, the mark, version 1.
