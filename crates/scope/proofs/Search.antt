@@ -6,7 +6,7 @@ use mathlib.Core.List.{List, [], ◌∷◌, ◌++◌}
 use native.Mathlib.Omega.{arith}
 use borrow.Author.Rules.{rules}
 use borrow.Author.Tests.{eq-eqb, ne_eqb}
-use lib.ListN.{length, get_or, take, length-take}
+use lib.ListN.{length, get_or}
 use Rattle.word.specs.Record.{op_at, b_at}
 use Rattle.class.specs.Info.{info_by}
 use Rattle.class.specs.declared.Info.{Info}
@@ -203,48 +203,8 @@ module _ (t : List Scope) where
       unfolding scopes_left find scopes_of found_of
       find_none k = sym (e ∙ rw k)
 
--- the last of the first m entries of a table, and those before it
-last_taken : (t us : List Scope) (s d : Scope) (m : ℕ) → m ≤ length t → take m t ≡ us ++ s ∷ [] → (0 < m) × (us ≡ take (m - 1) t) × (s ≡ get_or t (m - 1) d)
-last_taken t [] s d zero h e = absurd (let z : ◌≡◌ {A = ℕ} 0 1 = cc in omega arith)
-last_taken t (u ∷ us) s d zero h e = absurd (let z : ◌≡◌ {A = ℕ} 0 1 = cc in omega arith)
-last_taken [] us s d (suc m) h e = absurd (omega arith)
-last_taken (v ∷ t) [] s d (suc zero) h e = (omega arith, refl, cc)
-last_taken (v ∷ []) [] s d (suc (suc m)) h e = absurd (omega arith)
-last_taken (v ∷ w ∷ t) [] s d (suc (suc m)) h e = absurd (let z : ◌≡◌ {A = ℕ} 0 1 = cc in omega arith)
-last_taken (v ∷ t) (u ∷ us) s d (suc m) h e =
-    let f : v ≡ u = cc in
-    let g = last_taken t us s d m (omega arith) (cc) in
-    let k : suc m - 1 ≡ suc (m - 1) = omega (arith, g.0) in
-    (omega arith, rw (k, ← f) (ap (λ (l : List Scope). v ∷ l) g.1), rw k g.2)
-
--- a turn of the search: so many scopes were looked in, and the entries further out are left
-pub record Turn (t : List Scope) (c : List ℕ) (n depth name q : ℕ) (left : List Scope) (outward : ℕ) : Type 0 where
-  pub within : outward ≤ depth
-  pub are : left ≡ take (depth - outward) t
-  pub whole : found_of (infos_of t depth) (find name q 0 (scopes_of c n t depth)) ≡ scopes_left t c n depth name q outward (depth - outward)
-
-module _ (t : List Scope) (c : List ℕ) (n depth name q : ℕ) where
-  pub turn_first : (left : List Scope) (outward : ℕ) → left ≡ take depth t → outward ≡ 0 → Turn t c n depth name q left outward
-  turn_first left outward e f = let g : depth - 0 ≡ depth = omega arith in rw f (record { within = omega arith; are = rw g e; whole = rw g (find_begin t c n depth name q) })
-
-  module _ (left : List Scope) (outward : ℕ) (w : Turn t c n depth name q left outward) (l : depth ≤ length t) where
-    pub turn_end : length left ≡ 0 → F.None ≡ found_of (infos_of t depth) (find name q 0 (scopes_of c n t depth))
-    turn_end e =
-        let g : depth - outward ≡ 0 = omega (arith, length-take (depth - outward) t, ap length w.are) in
-        find_none t c n depth name q outward (depth - outward) _ w.whole g
-
-    module _ (us : List Scope) (s : Scope) (e : left ≡ us ++ s ∷ []) (a : ℕ) (o : a ≡ outward) (h : Found) (g : h ≡ found_in (info_in s) (only_of (in_scope name q a (open_of c n s)))) where
-      last : (0 < depth - outward) × (us ≡ take (depth - outward - 1) t) × (s ≡ get_or t (depth - outward - 1) blank)
-      last = last_taken t us s blank (depth - outward) (omega arith) (sym w.are ∙ e)
-
-      here_found : h ≡ found_in (info_in (get_or t (depth - outward - 1) blank)) (only_of (in_scope name q outward (open_of c n (get_or t (depth - outward - 1) blank))))
-      here_found = rw (last.2, o) at g
-
-      pub turn_here : (h ≡ F.None → ⊥) → h ≡ found_of (infos_of t depth) (find name q 0 (scopes_of c n t depth))
-      turn_here f = find_here t c n depth name q outward (depth - outward) _ w.whole h last.0 (let b = last.0 in omega arith) here_found f
-
-      pub turn_next : (k : ℕ) → k ≡ outward + 1 → h ≡ F.None → Turn t c n depth name q us k
-      turn_next k f i =
-          let b = last.0 in
-          let j : depth - (outward + 1) ≡ depth - outward - 1 = omega arith in
-          rw f (record { within = omega arith; are = rw j last.1; whole = rw j (find_again t c n depth name q outward (depth - outward) _ w.whole h b (omega arith) here_found i) })
+-- an entry within a table is read whatever stands for one past its end
+pub entry_within : (t : List Scope) (j : ℕ) (a b : Scope) → j < length t → get_or t j a ≡ get_or t j b
+entry_within [] j a b l = absurd (omega (arith, l))
+entry_within (s ∷ t) zero a b l = refl
+entry_within (s ∷ t) (suc j) a b l = entry_within t j a b (omega (arith, l))

@@ -1,16 +1,29 @@
--- `scope::find` meets its contract: a scope that has a match, one that has none, and none left.
+-- `scope::find` meets its contract: what is left to look in, from here, is what the whole look-up is.
 -- Assumes nothing.
-use Rattle.scope.proofs.Search.{turn_first, turn_here, turn_next, turn_end}
+use Prim.Native.Nat.{◌-◌, ◌+◌, ◌<◌}
+use mathlib.Core.Path.{◌≡◌}
+use native.Mathlib.Omega.{arith}
+use lib.ListN.{length}
+use Rattle.scope.specs.Table.{blank}
+use Rattle.scope.proofs.Search.{entry_within}
+use Rattle.scope.proofs.Search.{find_begin, find_here, find_again, find_none}
 use Rattle.scope.proofs.find.Goals as goal
 
 pub loop-outward-init : goal.loop-outward-init
-loop-outward-init c = rw (c.into_iter-outward-iterator.ensures.into_iter_gives) (turn_first _ _ _ _ _ _ _ _ (rw (c.enumerate-outward-items.ensures.source, c.rev.ensures.source) c.iter.ensures.rest) c.enumerate-outward-items.ensures.count)
+loop-outward-init c = let e : c.args.depth - 0 ≡ c.args.depth = omega arith in rw e (find_begin c.args.scopes.now c.args.cat.now c.args.n c.args.depth c.args.name c.args.qualifier)
 
 pub returns-in_default : goal.returns-in_default
-returns-in_default c = turn_here _ _ _ _ _ _ _ _ c.loop-outward.invariant c.requires.depth_bound.0 _ _ c.in-Some.ensures.steps.0 _ c.in-Some.ensures.steps.1 _ c.in_scope.ensures c.in_default.not-None
+returns-in_default c =
+    let below : c.args.depth - c.loop-outward.outward - 1 < length c.args.scopes.now = omega arith in
+    find_here c.args.scopes.now c.args.cat.now c.args.n c.args.depth c.args.name c.args.qualifier c.loop-outward.outward (c.args.depth - c.loop-outward.outward) _ c.loop-outward.invariant _ (omega arith) (omega arith)
+    (rw (entry_within c.args.scopes.now (c.args.depth - c.loop-outward.outward - 1) _ blank below) at c.in_scope.ensures) c.in_default.not-None
 
 pub loop-outward-preserved : goal.loop-outward-preserved
-loop-outward-preserved c = turn_next _ _ _ _ _ _ _ _ c.loop-outward.invariant c.requires.depth_bound.0 _ _ c.in-Some.ensures.steps.0 _ c.in-Some.ensures.steps.1 _ c.in_scope.ensures _ c.in-Some.ensures.steps.2 c.in-None-in_scope.is
+loop-outward-preserved c =
+    let below : c.args.depth - c.loop-outward.outward - 1 < length c.args.scopes.now = omega arith in
+    let e : c.args.depth - (c.loop-outward.outward + 1) ≡ c.args.depth - c.loop-outward.outward - 1 = omega arith in
+    rw e (find_again c.args.scopes.now c.args.cat.now c.args.n c.args.depth c.args.name c.args.qualifier c.loop-outward.outward (c.args.depth - c.loop-outward.outward) _ c.loop-outward.invariant _ (omega arith) (omega arith)
+    (rw (entry_within c.args.scopes.now (c.args.depth - c.loop-outward.outward - 1) _ blank below) at c.in_scope.ensures) c.in-None.is)
 
 pub returns : goal.returns
-returns c = turn_end _ _ _ _ _ _ _ _ c.loop-outward.invariant c.requires.depth_bound.0 c.in-None.ensures.steps.0.0
+returns c = find_none c.args.scopes.now c.args.cat.now c.args.n c.args.depth c.args.name c.args.qualifier c.loop-outward.outward (c.args.depth - c.loop-outward.outward) _ c.loop-outward.invariant (omega arith)
