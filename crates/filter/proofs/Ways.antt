@@ -8,6 +8,7 @@ use native.Mathlib.Omega.{arith}
 use borrow.Author.Tests.{leb-true, le-leb}
 use lib.Dec.{leb}
 use lib.ListN.{length}
+use Rattle.std.specs.Prelude.{Ok}
 use Rattle.word.specs.Buffer.{Wrote, Room}
 use Rattle.word.specs.Header.{count_at}
 use Rattle.word.specs.Refusal.{Checked, fine, refusal, and_then}
@@ -148,7 +149,7 @@ module _ (c : List ℕ) (t : ℕ) (e : fault.check_of c ≡ fine t) where
       record {
         cat_long = cat_long n f;
         cat_few = cat_few n f;
-        starts = taken_starts c t (fault.check_of c) refl e n f ss g;
+        starts = taken_starts c t (Ok t) (sym e) refl n f ss g;
         taken = sym h;
       }
 

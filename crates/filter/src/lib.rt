@@ -13,29 +13,27 @@ ghost use Rattle.label.specs.Left.{LeftView};
 ghost use Rattle.label.specs.Whole.{select_at, tree_at, Viewed};
 ghost use Rattle.filter.specs.Steps.{TreeGiven, BothGiven};
 
+use resolve::{Files, Source, Sums};
 use word::{Reason, Refusal};
 
 // The number of records of the tree of a resolved view, whose parts take so many records, with the notes and ends that were left of it; the tree is
 // in its buffer. Refused if it needs more records than 8,190 or than the buffer holds.
 fn written(
-    cat: &[u8],
-    starts: &[u16; 32],
-    view: &[u8],
-    f: resolve::Files,
-    sums: resolve::Sums,
+    source: &Source,
+    sums: Sums,
     q: u16,
     notes: &[u64],
     ends: &[u64],
     tree: &mut [u8],
 ) -> Result<usize, Refusal>
-    requires viewed { Viewed cat.now starts.now view.now f }
-    requires left_view { LeftView cat.now view.now f notes.now ends.now }
-    requires sums_value { sums ≡ sums_of f.k (select_at cat.now view.now f) }
-    ensures { TreeGiven (tree_fits (length tree.old) (tree_at cat.now view.now f q)) tree.old tree.new (said result) }
+    requires viewed { Viewed source.now.cat.now source.now.starts.now source.now.view.now source.now.files }
+    requires left { LeftView source.now.cat.now source.now.view.now source.now.files notes.now ends.now }
+    requires summed { sums ≡ sums_of source.now.files.k (select_at source.now.cat.now source.now.view.now source.now.files) }
+    ensures { TreeGiven (tree_fits (length tree.old) (tree_at source.now.cat.now source.now.view.now source.now.files q)) tree.old tree.new (said result) }
 {
-    let size = label::measure(cat, starts, view, f, q, sums);
+    let size = label::measure(source, q, sums);
     if size <= 8190 && 8 + 8 * size <= tree.len() {
-        label::write_tree(cat, starts, view, f, q, size as u16, notes, ends, tree);
+        label::write_tree(source, q, size as u16, notes, ends, tree);
         Ok(size)
     } else {
         Err(Refusal {
@@ -60,11 +58,16 @@ fn tree_of(
     let n = view::check(view)?;
     let nc = usize::from(word::u16_at(cat, 6));
     let starts = catalogue::starts(cat, nc);
-    let f = resolve::Files { nc, tables, n, k };
+    let source = Source {
+        cat,
+        starts: &starts,
+        view,
+        files: Files { nc, tables, n, k },
+    };
     let mut notes = [0u64; 1024];
     let mut ends = [0u64; 33];
-    let sums = resolve::whole(cat, &starts, view, f, &mut notes, &mut ends)?;
-    written(cat, &starts, view, f, sums, q, &notes, &ends, tree)
+    let sums = resolve::whole(&source, &mut notes, &mut ends)?;
+    written(&source, sums, q, &notes, &ends, tree)
 }
 
 /// TRANSLATE: the tree of a view, for the class k of its constants and the clearance q, into the buffer `tree`; answers its number of records.
