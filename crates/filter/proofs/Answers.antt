@@ -8,6 +8,7 @@ use native.Mathlib.Omega.{arith}
 use borrow.Author.Tests.{leb-true}
 use lib.Dec.{leb}
 use lib.ListN.{length, drop}
+use Rattle.std.specs.Prelude.{Some, None}
 use Rattle.word.specs.Buffer.{put}
 use Rattle.word.specs.Header.{count_at}
 use Rattle.word.specs.Refusal.{Checked, fine, refusal, and_then}
@@ -32,30 +33,26 @@ use Rattle.filter.proofs.Standing.{SelectSound, view_sound, select_fits, select_
 
 -- ---- the rows
 
--- 65536 says that the answer doesn't fit, and the buffer is left; else it is written
-rows_over : (p p' : List ℕ) (rs : List (List Shown)) (n : ℕ) → p' ≡ run.answer_put p rs → n ≡ run.answer_count p rs → n ≡ 65536 →
-    (answer_fits (length p) rs ≡ refusal 41 0) × (p' ≡ p)
+-- none says that the answer doesn't fit, and the buffer is left; else it is written
+rows_over : (p p' : List ℕ) (rs : List (List Shown)) → p' ≡ run.answer_put p rs → None ≡ run.answer_count p rs → (answer_fits (length p) rs ≡ refusal 41 0) × (p' ≡ p)
 unfolding run.answer_fits run.answer_put run.answer_count answer_fits
-rows_over p p' rs n e f z = go (leb (length rs) 65535 && leb (length (answer_file rs)) (length p)) refl e f
+rows_over p p' rs e f = go (leb (length rs) 65535 && leb (length (answer_file rs)) (length p)) e f
   where
-    go : (b : Bool) → (leb (length rs) 65535 && leb (length (answer_file rs)) (length p)) ≡ b → p' ≡ cond b (put p 0 (answer_file rs)) p → n ≡ cond b (length rs) 65536 →
-        (cond b (fine rs) (refusal 41 0) ≡ refusal 41 0) × (p' ≡ p)
-    go true g e f =
-        let a = leb-true (length rs) 65535 (and_left (leb (length rs) 65535) (leb (length (answer_file rs)) (length p)) g) in
-        absurd (omega arith)
-    go false g e f = (refl, e)
+    go : (b : Bool) → p' ≡ cond b (put p 0 (answer_file rs)) p → None ≡ cond b (Some (length rs)) None → (cond b (fine rs) (refusal 41 0) ≡ refusal 41 0) × (p' ≡ p)
+    go true e f = absurd (let z : ◌≡◌ {A = ℕ} 0 1 = cc in omega arith)
+    go false e f = (refl, e)
 
-rows_taken : (p p' : List ℕ) (rs : List (List Shown)) (n : ℕ) → p' ≡ run.answer_put p rs → n ≡ run.answer_count p rs → (n ≡ 65536 → ⊥) →
+rows_taken : (p p' : List ℕ) (rs : List (List Shown)) (n : ℕ) → p' ≡ run.answer_put p rs → Some n ≡ run.answer_count p rs →
     (answer_fits (length p) rs ≡ fine rs) × (p' ≡ over (answer_file rs) p) × (n ≡ length rs)
 unfolding run.answer_fits run.answer_put run.answer_count answer_fits over
-rows_taken p p' rs n e f z = go (leb (length rs) 65535 && leb (length (answer_file rs)) (length p)) refl e f
+rows_taken p p' rs n e f = go (leb (length rs) 65535 && leb (length (answer_file rs)) (length p)) refl e f
   where
-    go : (b : Bool) → (leb (length rs) 65535 && leb (length (answer_file rs)) (length p)) ≡ b → p' ≡ cond b (put p 0 (answer_file rs)) p → n ≡ cond b (length rs) 65536 →
+    go : (b : Bool) → (leb (length rs) 65535 && leb (length (answer_file rs)) (length p)) ≡ b → p' ≡ cond b (put p 0 (answer_file rs)) p → Some n ≡ cond b (Some (length rs)) None →
         (cond b (fine rs) (refusal 41 0) ≡ fine rs) × (p' ≡ answer_file rs ++ drop (length (answer_file rs)) p) × (n ≡ length rs)
     go true g e f =
         let a = leb-true (length (answer_file rs)) (length p) (and_right (leb (length rs) 65535) (leb (length (answer_file rs)) (length p)) g) in
-        (refl, e ∙ put_start p (answer_file rs) a, f)
-    go false g e f = absurd (z f)
+        (refl, e ∙ put_start p (answer_file rs) a, cc)
+    go false g e f = absurd (let z : ◌≡◌ {A = ℕ} 0 1 = cc in omega arith)
 
 -- ---- a tree that was given
 
@@ -120,28 +117,28 @@ module _ (c v s : List ℕ) (tables k q : ℕ) (files : Files c v s tables k q) 
         let g = tree_is c v k q (length o) t e in
         record { tree = t; shown = answer_by_reading (catalogue_of c) k (store_of c s) q g.block; answers = tree_runs t g o' b }
 
-    module _ (p p' : List ℕ) (rows : ℕ) (answered : run.Answered o' c s q p p' rows) where
+    module _ (p p' : List ℕ) where
       -- 41: the tree stays in its buffer
-      pub both_over : rows ≡ 65536 → BothGiven c v k q s o p o' p' (refusal 41 0)
+      pub both_over : run.Answered o' c s q p p' None → BothGiven c v k q s o p o' p' (refusal 41 0)
       unfolding answer_of or_else result_by held_by
-      both_over z =
+      both_over answered =
           given_fine o' n given λ t e b.
           let g = tree_is c v k q (length o) t e in
           let runs = tree_runs t g o' b in
           let rs = answer_by_reading (catalogue_of c) k (store_of c s) q g.block in
           let (u, w) = answered.is t rs runs in
-          let (h, l) = rows_over p p' rs rows u w z in
+          let (h, l) = rows_over p p' rs u w in
           record { says = rw (e, runs.runs, h); tree = given.holds; holds = rw (e, runs.runs, h) l }
 
-      pub both_taken : (rows ≡ 65536 → ⊥) → BothGiven c v k q s o p o' p' (fine rows)
+      pub both_taken : (rows : ℕ) → run.Answered o' c s q p p' (Some rows) → BothGiven c v k q s o p o' p' (fine rows)
       unfolding answer_of or_else result_by held_by
-      both_taken z =
+      both_taken rows answered =
           given_fine o' n given λ t e b.
           let g = tree_is c v k q (length o) t e in
           let runs = tree_runs t g o' b in
           let rs = answer_by_reading (catalogue_of c) k (store_of c s) q g.block in
           let (u, w) = answered.is t rs runs in
-          let (h, l, m) = rows_taken p p' rs rows u w z in
+          let (h, l, m) = rows_taken p p' rs rows u w in
           record { says = rw (e, runs.runs, h) (ap fine m); tree = given.holds; holds = rw (e, runs.runs, h) l }
 
 -- no tree was given: the refusal stands, and the answer buffer is left

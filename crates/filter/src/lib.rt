@@ -101,13 +101,12 @@ fn answer_over(
     ensures { BothGiven cat.now view.now k q store.now tree.old out.old tree.new out.new (said result) }
 {
     tree_of(cat, tables, view, k, q, tree)?;
-    let rows = run::answer(tree, cat, store, q, out);
-    if rows == 65536 {
+    let Some(rows) = run::answer(tree, cat, store, q, out) else {
         return Err(Refusal {
             reason: Reason::AnswerTooLarge,
             place: 0,
         });
-    }
+    };
     Ok(rows)
 }
 
