@@ -280,7 +280,7 @@ unfolding layout.check_of layout.verdict_by
 by_store c n t s =
     go (headed drs s) ((leb (length s) 65528 && eqb (count_at s) t) && eqb (layout.end_from c n s n 0 8) (length s)) (eqb (layout.fault_from c n s n 0 8) 0)
   where
-    go : (a b d : Bool) → Numbered (cond a (cond b (cond d (fine tt) (refusal 33 (layout.fault_from c n s n 0 8))) (refusal 32 0)) (refusal 31 0))
+    go : (a b d : Bool) → Numbered (cond a (cond b (cond d (fine (tt {0})) (refusal 33 (layout.fault_from c n s n 0 8))) (refusal 32 0)) (refusal 31 0))
     go true true true = tt
     go true true false = some 32
     go true false d = some 31

@@ -1,6 +1,6 @@
 -- One law for each way out of the two jobs, in the form in which the code holds the facts.
 -- Assumes nothing.
-use Prim.Native.Nat.{ℕ, ◌+◌, ◌*◌, ◌≤◌, min}
+use Prim.Native.Nat.{ℕ, ◌+◌, ◌*◌, ◌≤◌, ◌<◌, min}
 use mathlib.Core.Path.{◌≡◌, refl, sym, ap, subst, ◌∙◌}
 use mathlib.Core.Bool.{Bool, true, false, cond, ◌&&◌}
 use mathlib.Core.List.{List}
@@ -37,54 +37,37 @@ use Rattle.filter.specs.Steps.{TreeGiven, BothGiven}
 
 -- ---- the tree of a resolved view: 10, or written
 
--- what was measured is the size, and it is within both limits
-measured : (n size room : ℕ) → size ≡ min n 8191 → (leb size 8190 && leb (8 + 8 * size) room) ≡ true → (size ≡ n) × (n ≤ 8190) × (8 + 8 * n ≤ room)
-measured n size room e h =
-    let a = leb-true size 8190 (and_left (leb size 8190) (leb (8 + 8 * size) room) h) in
-    let b = leb-true (8 + 8 * size) room (and_right (leb size 8190) (leb (8 + 8 * size) room) h) in
-    let p : size ≡ n = omega arith in
-    (p, omega arith, omega arith)
-
 module _ (t : SelectTree) (size : ℕ) (o : List ℕ) (e : size ≡ min (size_select t) 8191) where
-  pub count_is : (leb size 8190 && leb (8 + 8 * size) (length o)) ≡ true → size ≡ size_select t
-  count_is h = (measured (size_select t) size (length o) e h).0
+  pub count_is : size ≤ 8190 → size ≡ size_select t
+  count_is h = omega arith
 
-  pub has_room : (leb size 8190 && leb (8 + 8 * size) (length o)) ≡ true → Room o 0 (tree_file t)
-  has_room h = record { within = omega (arith, (measured (size_select t) size (length o) e h).2, length_file t) }
+  pub has_room : size ≤ 8190 → 8 + 8 * size ≤ length o → Room o 0 (tree_file t)
+  has_room h g = record { within = omega (arith, count_is h, length_file t) }
 
-  fits_yes : (leb size 8190 && leb (8 + 8 * size) (length o)) ≡ true → tree_fits (length o) t ≡ fine t
+  -- written
+  pub tree_written : {o' : List ℕ} {end : ℕ} → size ≤ 8190 → 8 + 8 * size ≤ length o → Wrote o 0 (tree_file t) o' end → TreeGiven (tree_fits (length o) t) o o' (fine size)
+  unfolding tree_fits result_by held_by over
+  tree_written {o'} {end} h g w =
+      let p = count_is h in
+      let few = le-leb (size_select t) 8190 (omega (arith, p)) in
+      let short = le-leb (8 + 8 * size_select t) (length o) (omega (arith, p)) in
+      record { says = rw (few, short) (ap fine p); holds = rw (few, short) (w.now_is ∙ put_start o (tree_file t) (omega (arith, p, length_file t))) }
+
+  -- 10: too many records, or too long for the buffer
+  too_large : (size ≤ 8190 → length o < 8 + 8 * size) → tree_fits (length o) t ≡ refusal 10 0
   unfolding tree_fits
-  fits_yes h =
-      let (p, a, b) = measured (size_select t) size (length o) e h in
-      rw (le-leb (size_select t) 8190 a, le-leb (8 + 8 * size_select t) (length o) b)
-
-  fits_no : (leb size 8190 && leb (8 + 8 * size) (length o)) ≡ false → tree_fits (length o) t ≡ refusal 10 0
-  unfolding tree_fits
-  fits_no h = go (leb (size_select t) 8190 && leb (8 + 8 * size_select t) (length o)) refl
+  too_large h = go (leb (size_select t) 8190 && leb (8 + 8 * size_select t) (length o)) refl
     where
       go : (z : Bool) → (leb (size_select t) 8190 && leb (8 + 8 * size_select t) (length o)) ≡ z → cond z (fine t) (refusal 10 0) ≡ refusal 10 0
       go true g =
-          let a = leb-true (size_select t) 8190 (and_left (leb (size_select t) 8190) (leb (8 + 8 * size_select t) (length o)) g) in
-          let p : size ≡ size_select t = omega arith in
-          let q : true ≡ false = sym g ∙ ap (λ (n : ℕ). leb n 8190 && leb (8 + 8 * n) (length o)) (sym p) ∙ h in
-          let z : ◌≡◌ {A = ℕ} 0 1 = cc in
-          absurd (omega arith)
+          let few = leb-true (size_select t) 8190 (and_left (leb (size_select t) 8190) (leb (8 + 8 * size_select t) (length o)) g) in
+          let short = leb-true (8 + 8 * size_select t) (length o) (and_right (leb (size_select t) 8190) (leb (8 + 8 * size_select t) (length o)) g) in
+          absurd (omega (arith, h (omega arith)))
       go false g = refl
 
-  -- written
-  pub tree_written : {o' : List ℕ} {end : ℕ} → (leb size 8190 && leb (8 + 8 * size) (length o)) ≡ true → Wrote o 0 (tree_file t) o' end → TreeGiven (tree_fits (length o) t) o o' (fine size)
-  unfolding result_by held_by over
-  tree_written {o'} {end} h w =
-      let (p, a, b) = measured (size_select t) size (length o) e h in
-      record {
-        says = rw (fits_yes h) (ap fine p);
-        holds = rw (fits_yes h) (w.now_is ∙ put_start o (tree_file t) (omega (arith, b, length_file t)));
-      }
-
-  -- 10
-  pub tree_large : (leb size 8190 && leb (8 + 8 * size) (length o)) ≡ false → TreeGiven (tree_fits (length o) t) o o (refusal 10 0)
+  pub tree_large : (size ≤ 8190 → length o < 8 + 8 * size) → TreeGiven (tree_fits (length o) t) o o (refusal 10 0)
   unfolding result_by held_by
-  tree_large h = record { says = rw (fits_no h); holds = rw (fits_no h) }
+  tree_large h = record { says = rw (too_large h); holds = rw (too_large h) }
 
 -- ---- a view over an accepted catalogue
 

@@ -9,8 +9,7 @@ ghost use Rattle.word.specs.Header.{count_at};
 ghost use Rattle.word.specs.Refusal.{fine, said};
 ghost use Rattle.filter.specs.Jobs.{tree_fits, tree_of, Translated, Answered};
 ghost use Rattle.resolve.specs.Sizes.{sums_of};
-ghost use Rattle.label.specs.Left.{LeftView};
-ghost use Rattle.label.specs.Whole.{select_at, tree_at, Viewed};
+ghost use Rattle.label.specs.Levels.{select_in, tree_in, LeftViewIn, ViewedIn};
 ghost use Rattle.filter.specs.Steps.{TreeGiven, BothGiven};
 
 use resolve::{Files, Source, Sums};
@@ -26,10 +25,10 @@ fn written(
     ends: &[u64],
     tree: &mut [u8],
 ) -> Result<usize, Refusal>
-    requires viewed { Viewed source.now.cat.now source.now.starts.now source.now.view.now source.now.files }
-    requires left { LeftView source.now.cat.now source.now.view.now source.now.files notes.now ends.now }
-    requires summed { sums ≡ sums_of source.now.files.k (select_at source.now.cat.now source.now.view.now source.now.files) }
-    ensures { TreeGiven (tree_fits (length tree.old) (tree_at source.now.cat.now source.now.view.now source.now.files q)) tree.old tree.new (said result) }
+    requires viewed { ViewedIn source.now }
+    requires left { LeftViewIn source.now notes.now ends.now }
+    requires summed { sums ≡ sums_of source.now.files.k (select_in source.now) }
+    ensures { TreeGiven (tree_fits (length tree.old) (tree_in source.now q)) tree.old tree.new (said result) }
 {
     let size = label::measure(source, q, sums);
     if size <= 8190 && 8 + 8 * size <= tree.len() {

@@ -1,21 +1,20 @@
 -- `filter::answer` meets its contract.
 -- Assumes nothing.
 use borrow.Author.Rules.{rules}
-use Rattle.catalogue.proofs.Meaning.{taken_header, taken_few}
-use Rattle.filter.proofs.Ways.{answer_denied, answer_store, answer_both}
+use Rattle.filter.proofs.Ways.{cat_header, cat_few, answer_denied, answer_store, answer_both, store_is}
 use Rattle.filter.proofs.answer.Goals as goal
 
-pub u16_at-nc-requires : goal.u16_at-nc-requires
-u16_at-nc-requires c = search (taken_header, rules)
+pub returns-in_err-tables : goal.returns-in_err-tables
+returns-in_err-tables c = search (answer_denied, rules)
+
+pub u16_at-requires : goal.u16_at-requires
+u16_at-requires c = search (cat_header, rules)
 
 pub check_over-requires : goal.check_over-requires
-check_over-requires c = search (taken_few, rules)
+check_over-requires c = search (cat_few, rules)
 
-pub returns-in-Refused : goal.returns-in-Refused
-returns-in-Refused c = search (answer_denied, rules)
+pub returns-in_err-check_over : goal.returns-in_err-check_over
+returns-in_err-check_over c = search (answer_store, rules)
 
-pub returns-in-Refused-check_over : goal.returns-in-Refused-check_over
-returns-in-Refused-check_over c = search (answer_store, rules)
-
-pub returns-in-Fine : goal.returns-in-Fine
-returns-in-Fine c = search (answer_both, rules)
+pub returns : goal.returns
+returns c = search (answer_both, rules)

@@ -6,8 +6,11 @@ use Rattle.filter.proofs.Left.{left_view}
 use Rattle.filter.proofs.Ways.{cat_header, cat_long, cat_few, cat_view, cat_viewed, sums_are, tree_view, tree_names, tree_fine}
 use Rattle.filter.proofs.tree_of.Goals as goal
 
-pub u16_at-nc-requires : goal.u16_at-nc-requires
-u16_at-nc-requires c = search (cat_header, rules)
+pub returns-in_err-n : goal.returns-in_err-n
+returns-in_err-n c = search (tree_view, rules)
+
+pub u16_at-requires : goal.u16_at-requires
+u16_at-requires c = search (cat_header, rules)
 
 pub starts-starts-requires : goal.starts-starts-requires
 starts-starts-requires c = search (cat_long, cat_few, rules)
@@ -15,21 +18,22 @@ starts-starts-requires c = search (cat_long, cat_few, rules)
 pub whole-requires : goal.whole-requires
 whole-requires c = search (cat_view, rules)
 
-pub written-requires : goal.written-requires
-written-requires c = let fine = c.requires in
-    let count = c.u16_at-nc.ensures in
-    let read = c.check.ensures in
-    let taken = c.in-Records.is in
-    let sums = c.in-Fine.is in
+pub returns-in_err-sums : goal.returns-in_err-sums
+returns-in_err-sums c = search (tree_names, rules)
+
+pub written-requires-clause-viewed : goal.written-requires-clause-viewed
+written-requires-clause-viewed c = search (cat_viewed, rules)
+
+pub written-requires-clause-left : goal.written-requires-clause-left
+written-requires-clause-left c =
     let cat-known = c.type_inv.cat in
-    let view_known = c.type_inv.view in
-    let k-fits = c.ranges.k in record { viewed = cat_viewed _ _ fine _ _ _ _ count c.starts-starts.ensures read taken c.whole.ensures.value sums; left_view = left_view _ _ _ _ fine (λ i. omega (arith, cat-known i)) (λ i. omega (arith, view_known i)) (omega (arith, k-fits)) _ _ _ _ (omega arith) (omega arith) _ count read taken c.whole.ensures.value sums c.whole.ensures.noted_view c.whole.ensures.ended_view; sums_value = sums_are _ _ _ _ _ _ c.whole.ensures.value sums }
+    let view-known = c.type_inv.view in
+    let k-fits = c.ranges.k in
+    left_view _ _ _ _ c.requires (λ i. omega (arith, cat-known i)) (λ i. omega (arith, view-known i)) (omega (arith, k-fits)) _ _ _ _ (omega arith) (omega arith) _ (search rules) c.in_ok-n.ensures c.in_ok-sums.ensures.value
+    c.in_ok-sums.ensures.noted_view c.in_ok-sums.ensures.ended_view
 
-pub returns-in-Refused : goal.returns-in-Refused
-returns-in-Refused c = search (tree_view, rules)
+pub written-requires-clause-summed : goal.written-requires-clause-summed
+written-requires-clause-summed c = search (sums_are, rules)
 
-pub returns-in-Refused-whole : goal.returns-in-Refused-whole
-returns-in-Refused-whole c = search (tree_names, rules)
-
-pub returns-in-Fine : goal.returns-in-Fine
-returns-in-Fine c = search (tree_fine, rules)
+pub returns : goal.returns
+returns c = search (tree_fine, rules)
