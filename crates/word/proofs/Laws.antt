@@ -18,9 +18,8 @@ use Rattle.std.specs.List.{starts_with}
 use borrow.Author.Tests.{lt-ltb, le-ltb, le-leb, leb-true, eq-eqb, ne_eqb, eqb-true}
 use Rattle.word.specs.Bytes.{u16_at, u32_at, i32_at, signed32, bits32, le16, le32}
 use Rattle.word.specs.Buffer.{put, Wrote, Room}
-use Rattle.word.specs.Record.{rec_at, rec_bytes}
+use Rattle.word.specs.Record.{Record, rec_at, rec_bytes}
 use Rattle.word.specs.Header.{starts, headed, count_at, header}
-use Rattle.word.specs.declared.Rec.{Rec}
 use Rattle.word.proofs.Writing.{put_at, put_before, put_after}
 
 -- ---- tests
@@ -158,7 +157,7 @@ rec_again o at kind op a b c h = record {
 }
 
 -- record i, written at its place, is read again
-pub rec_at_again : (o : List ℕ) (i : ℕ) (r : Rec) → 8 + 8 * i + 8 ≤ length o
+pub rec_at_again : (o : List ℕ) (i : ℕ) (r : Record) → 8 + 8 * i + 8 ≤ length o
     → rec_at (put o (8 + 8 * i) (rec_bytes r.kind r.op r.a r.b r.c)) i ≡ r
 unfolding rec_at
 rec_at_again o i r h =

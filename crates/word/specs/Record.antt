@@ -2,11 +2,11 @@
 -- Assumes nothing.
 use Rattle.std.specs.Prelude.{ℕ, ◌+◌, ◌*◌, ◌/◌, ◌%◌, List, [], ◌∷◌, get_or}
 use Rattle.word.specs.Bytes.{u16_at}
-use Rattle.word.specs.declared.Rec.{Rec}
+use Rattle.word.specs.declared.Record as declared
 
 -- the type of a record
 abbrev pub Record : Type 0
-Record = Rec
+Record = declared.Record
 
 -- the fields of record i
 abbrev pub kind_at : List ℕ → ℕ → ℕ
@@ -25,7 +25,7 @@ abbrev pub c_at : List ℕ → ℕ → ℕ
 c_at f i = u16_at f (8 + 8 * i + 6)
 
 -- record i, whole
-unfoldable pub rec_at : List ℕ → ℕ → Rec
+unfoldable pub rec_at : List ℕ → ℕ → Record
 rec_at f i = record { kind = kind_at f i; op = op_at f i; a = a_at f i; b = b_at f i; c = c_at f i }
 
 -- the eight bytes of a record

@@ -10,16 +10,13 @@ ghost use Rattle.word.specs.Header.{starts, headed, header};
 
 /// A record of eight bytes: kind and op, then a, b, c, lowest byte first.
 #[derive(Clone, Copy, PartialEq, Eq, Debug)]
-pub struct Rec {
+pub struct Record {
     pub kind: u8,
     pub op: u8,
     pub a: u16,
     pub b: u16,
     pub c: u16,
 }
-
-/// The name of a record's type.
-pub type Record = Rec;
 
 impl Record {
     /// The eight bytes of a record.
