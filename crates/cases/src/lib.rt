@@ -12,7 +12,7 @@ use std::io::Read;
 /// A case: the job, 1 Translate, 2 Answer; k and q; the lengths of the lent buffers and of the three files.
 #[derive(Clone, Copy, PartialEq, Eq, Debug)]
 pub struct Case {
-    // Stays: the input's number, any number at all: an enum would have a case for all others, which the two programs take unlike (d).
+    // Stays: the input's number, any number at all: an enum would have a case for all others, which the two programs take unlike.
     pub job: u16,
     pub k: u16,
     pub q: u16,

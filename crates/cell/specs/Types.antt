@@ -4,8 +4,6 @@ use Rattle.std.specs.Prelude.{ℕ, ◌+◌, ◌*◌, ◌/◌, ◌%◌, max, Bool
 use Rattle.cell.specs.Res.{Res, stuck, done}
 use Rattle.cell.specs.declared.Type.{«Type» as Ty}
 use Rattle.cell.specs.declared.Type.TheVariants.{Null, Boolean, Fixed, Time, Interval, Class}
-use Rattle.cell.specs.declared.Judged.{Judged}
-use Rattle.cell.specs.declared.Judged.TheVariants.{Is, Broken}
 
 -- p is 1 to 9, s is 0 to 4 and at most p
 unfoldable pub digits_rule : ℕ → ℕ → Bool
@@ -119,8 +117,3 @@ same_type s t =
 -- THE TYPE of IF over its limbs' types: equal types, or two fixed to (max p, max s); else stuck
 unfoldable pub limb_type : Ty → Ty → Res Ty
 limb_type s t = cond (both 2 s t) (done (wider_of s t)) (if (same_type s t) s)
-
--- the code's answer
-unfoldable pub judged_of : Res Ty → Judged
-judged_of stuck = Broken
-judged_of (done t) = Is t

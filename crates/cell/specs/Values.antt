@@ -9,10 +9,6 @@ use Rattle.cell.specs.declared.Type.{«Type» as Ty}
 use Rattle.cell.specs.declared.Type.TheVariants as T
 use Rattle.cell.specs.declared.Value.{Value}
 use Rattle.cell.specs.declared.Value.TheVariants.{Null, Truth, Fixed, Time, Interval, Class}
-use Rattle.cell.specs.declared.Outcome.{Outcome}
-use Rattle.cell.specs.declared.Outcome.TheVariants as O
-use Rattle.cell.specs.declared.Test.{Test}
-use Rattle.cell.specs.declared.Test.TheVariants as S
 
 -- |m| is below 10^p
 abbrev pub digits : ℕ → ℤ → Bool
@@ -64,48 +60,6 @@ kind_v (Fixed s m) = cond (leb s 4) 2 6
 kind_v (Time m) = 3
 kind_v (Interval m) = 4
 kind_v (Class c) = 5
-
--- the scale of a fixed value, the number of a fixed one, a time or an interval, the truth of a boolean, the word of a class; else 0 and false
-unfoldable pub scale_v : Value → ℕ
-scale_v Null = 0
-scale_v (Truth b) = 0
-scale_v (Fixed s m) = s
-scale_v (Time m) = 0
-scale_v (Interval m) = 0
-scale_v (Class c) = 0
-
-unfoldable pub number_v : Value → ℤ
-number_v Null = pos 0
-number_v (Truth b) = pos 0
-number_v (Fixed s m) = m
-number_v (Time m) = m
-number_v (Interval m) = m
-number_v (Class c) = pos 0
-
-unfoldable pub truth_v : Value → Bool
-truth_v Null = false
-truth_v (Truth b) = b
-truth_v (Fixed s m) = false
-truth_v (Time m) = false
-truth_v (Interval m) = false
-truth_v (Class c) = false
-
-unfoldable pub class_v : Value → ℕ
-class_v Null = 0
-class_v (Truth b) = 0
-class_v (Fixed s m) = 0
-class_v (Time m) = 0
-class_v (Interval m) = 0
-class_v (Class c) = c
-
--- the code's answers
-unfoldable pub test_of : Res Bool → Test
-test_of stuck = S.Stuck
-test_of (done b) = S.Is b
-
-unfoldable pub outcome_of : Res Value → Outcome
-outcome_of stuck = O.Stuck
-outcome_of (done v) = O.Is v
 
 -- the signed number that a value holds: 0 for null, 1 or 0 for true and false
 unfoldable pub number_in : Value → ℤ

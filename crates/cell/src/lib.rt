@@ -22,13 +22,6 @@ pub enum Type {
     Class,
 }
 
-/// A type that a rule gives, or Broken where it gives none.
-#[derive(Drop)]
-pub enum Judged {
-    Is(Type),
-    Broken,
-}
-
 /// A value: a fixed one's scale and mantissa, the number of a time or an interval, the word of a class.
 #[derive(Clone, Copy, PartialEq, Eq, Debug)]
 pub enum Value {
@@ -38,19 +31,6 @@ pub enum Value {
     Time(i32),
     Interval(i32),
     Class(u16),
-}
-
-#[derive(Drop)]
-pub enum Outcome {
-    Stuck,
-    Is(Value),
-}
-
-/// The outcome of a condition.
-#[derive(Drop)]
-pub enum Test {
-    Stuck,
-    Is(bool),
 }
 
 /// A value and its class.

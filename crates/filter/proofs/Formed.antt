@@ -8,7 +8,7 @@ use lib.Dec.{eqb}
 use lib.ListN.{length}
 use Rattle.word.specs.Header.{count_at}
 use Rattle.word.specs.Record.{rec_at}
-use Rattle.word.specs.declared.Rec.{Rec}
+use Rattle.word.specs.Record.{Record}
 use Rattle.cell.specs.Types.{kind_of}
 use Rattle.cell.specs.Values.{is_null}
 use Rattle.cell.specs.declared.Type.{«Type» as Ty}
@@ -54,7 +54,7 @@ nest (ast.Exp.letin at name v b) = max (nest v) (1 + nest b)
 -- ---- a value
 
 -- a constant is null only where its type is
-null_says : (r : Rec) {t : Ty} {x : Value} → Says r (Const t x) → is_null x ≡ eqb (kind_of t) 0
+null_says : (r : Record) {t : Ty} {x : Value} → Says r (Const t x) → is_null x ≡ eqb (kind_of t) 0
 unfolding is_null kind_of
 null_says r (says_null k e) = refl
 null_says r (says_truth k e) = refl

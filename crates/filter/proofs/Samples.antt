@@ -56,5 +56,5 @@ table =
     []
 
 worked_cases : map (λ r. done r.0) table ≡ map (λ r. r.1) table
-unfolding done given table Rattle.catalogue.specs.Fault.tables_before Rattle.catalogue.specs.Fault.columns_before Rattle.catalogue.specs.Fault.table_used Rattle.catalogue.specs.Fault.column_used Rattle.catalogue.specs.Fault.has_column Rattle.catalogue.specs.Fault.table_fault Rattle.catalogue.specs.Fault.column_fault Rattle.catalogue.specs.Fault.fault_by Rattle.catalogue.specs.Fault.lowest Rattle.catalogue.specs.Fault.check_of Rattle.catalogue.specs.Tables.column_at Rattle.catalogue.specs.Tables.cols_from Rattle.catalogue.specs.Tables.table_at Rattle.catalogue.specs.Tables.tables_from Rattle.catalogue.specs.Tables.catalogue_of Rattle.catalogue.specs.Tables.later Rattle.catalogue.specs.Tables.table_named Rattle.cell.specs.Apply.of3 Rattle.cell.specs.Apply.as3 Rattle.cell.specs.Apply.as_cond Rattle.cell.specs.Apply.cut_fixed Rattle.cell.specs.Apply.cut_time Rattle.cell.specs.Apply.cut_interval Rattle.cell.specs.Apply.product_fixed Rattle.cell.specs.Apply.product_interval Rattle.cell.specs.Apply.sum_n Rattle.cell.specs.Apply.product_n Rattle.cell.specs.Apply.order_n Rattle.cell.specs.Apply.equal_n Rattle.cell.specs.Apply.or_null Rattle.cell.specs.Apply.equal_v Rattle.cell.specs.Apply.settled Rattle.cell.specs.Apply.logic_v Rattle.cell.specs.Apply.apply Rattle.cell.specs.Apply.negate Rattle.cell.specs.Apply.convert Rattle.cell.specs.Res.bind Rattle.cell.specs.Res.or_else Rattle.cell.specs.Res.nth Rattle.cell.specs.Res.map_res Rattle.cell.specs.Types.digits_rule Rattle.cell.specs.Types.type_rule Rattle.cell.specs.Types.type_by Rattle.cell.specs.Types.in_rule Rattle.cell.specs.Types.word_of Rattle.cell.specs.Types.kind_of Rattle.cell.specs.Types.digits_of Rattle.cell.specs.Types.scale_of Rattle.cell.specs.Types.format_of Rattle.cell.specs.Types.wider_of Rattle.cell.specs.Types.sum_type Rattle.cell.specs.Types.product_type Rattle.cell.specs.Types.logic_type Rattle.cell.specs.Types.order_type Rattle.cell.specs.Types.equal_type Rattle.cell.specs.Types.binop_type Rattle.cell.specs.Types.same_type Rattle.cell.specs.Types.limb_type Rattle.cell.specs.Types.judged_of Rattle.cell.specs.Values.is_null Rattle.cell.specs.Values.as_truth Rattle.cell.specs.Values.as_fixed Rattle.cell.specs.Values.as_time Rattle.cell.specs.Values.as_interval Rattle.cell.specs.Values.as_class Rattle.cell.specs.Values.kind_v Rattle.cell.specs.Values.scale_v Rattle.cell.specs.Values.number_v Rattle.cell.specs.Values.truth_v Rattle.cell.specs.Values.class_v Rattle.cell.specs.Values.test_of Rattle.cell.specs.Values.outcome_of Rattle.cell.specs.Values.number_in Rattle.class.specs.Class.level Rattle.class.specs.Class.mark Rattle.class.specs.Class.dominatesb Rattle.class.specs.Class.lub_of Rattle.class.specs.Info.info_by Rattle.class.specs.Info.bound_of Rattle.class.specs.Info.info_test Rattle.class.specs.Info.join_i Rattle.class.specs.Info.joins_i Rattle.class.specs.Info.same_i Rattle.class.specs.Info.choice_i Rattle.filter.specs.Jobs.resolved_by Rattle.filter.specs.Jobs.view_by Rattle.filter.specs.Jobs.tree_fits Rattle.filter.specs.Jobs.tree_of Rattle.filter.specs.Jobs.answer_fits Rattle.filter.specs.Jobs.answer_of Rattle.filter.specs.Jobs.over Rattle.filter.specs.Jobs.result_by Rattle.filter.specs.Jobs.held_by Rattle.filter.specs.Jobs.translate Rattle.filter.specs.Jobs.translate_over Rattle.filter.specs.Jobs.answer Rattle.resolve.specs.Resolve.then Rattle.resolve.specs.Resolve.col_out Rattle.resolve.specs.Resolve.class_out Rattle.resolve.specs.Resolve.on_tabs Rattle.resolve.specs.Resolve.ruled Rattle.resolve.specs.Resolve.need_bool Rattle.resolve.specs.Resolve.brought Rattle.resolve.specs.Resolve.resolve Rattle.resolve.specs.Resolve.also_out Rattle.resolve.specs.Resolve.resolve_all Rattle.resolve.specs.Resolve.with_values Rattle.resolve.specs.Resolve.with_test Rattle.resolve.specs.Resolve.with_tabs Rattle.resolve.specs.Resolve.resolve_view Rattle.run.specs.Answer.cell_for Rattle.run.specs.Answer.pair_at Rattle.run.specs.Answer.row_at Rattle.run.specs.Answer.concat Rattle.run.specs.Answer.run_select Rattle.run.specs.Answer.cell_bytes Rattle.run.specs.Answer.row_bytes Rattle.run.specs.Answer.rows_bytes Rattle.run.specs.Answer.answer_file Rattle.run.specs.Run.as_rows Rattle.run.specs.Run.as_local Rattle.run.specs.Run.row_in Rattle.run.specs.Run.cell_in Rattle.run.specs.Run.local_in Rattle.run.specs.Run.class_bound Rattle.run.specs.Run.concat_map Rattle.run.specs.Run.product Rattle.run.specs.Run.rows_for Rattle.run.specs.Run.exists_step Rattle.run.specs.Run.value_step Rattle.run.specs.Run.kept_value Rattle.run.specs.Run.agg_step Rattle.run.specs.Run.run Rattle.scope.specs.Blocks.before Rattle.scope.specs.Blocks.found_at Rattle.scope.specs.Blocks.tables_named Rattle.scope.specs.Blocks.refs_of Rattle.scope.specs.Scopes.only_of Rattle.scope.specs.Scopes.in_cols Rattle.scope.specs.Scopes.in_table Rattle.scope.specs.Scopes.in_tabs Rattle.scope.specs.Scopes.in_scope Rattle.scope.specs.Scopes.nearest Rattle.scope.specs.Scopes.find Rattle.store.specs.Layout.class_rule Rattle.store.specs.Layout.magnitude Rattle.store.specs.Layout.value_rule Rattle.store.specs.Layout.cell_rule Rattle.store.specs.Layout.cell_place Rattle.store.specs.Layout.columns_from Rattle.store.specs.Layout.row_size Rattle.store.specs.Layout.place_after Rattle.store.specs.Layout.place_of Rattle.store.specs.Layout.end_from Rattle.store.specs.Layout.first Rattle.store.specs.Layout.cells_fault Rattle.store.specs.Layout.row_fault Rattle.store.specs.Layout.rows_fault Rattle.store.specs.Layout.table_fault Rattle.store.specs.Layout.fault_from Rattle.store.specs.Layout.verdict_by Rattle.store.specs.Layout.check_of Rattle.store.specs.Layout.files_of Rattle.store.specs.Rows.value_of Rattle.store.specs.Rows.cell_at Rattle.store.specs.Rows.cells_from Rattle.store.specs.Rows.row_at Rattle.store.specs.Rows.rows_from Rattle.store.specs.Rows.table_rows Rattle.store.specs.Rows.tables_rows Rattle.store.specs.Rows.store_of Rattle.tree.specs.Select.test Rattle.tree.specs.Select.table_tests Rattle.tree.specs.Select.conj Rattle.tree.specs.Select.translated Rattle.tree.specs.Trans.expr_data Rattle.tree.specs.Trans.as_tree Rattle.tree.specs.Trans.bound Rattle.tree.specs.Trans.info_of Rattle.tree.specs.Trans.by_info Rattle.tree.specs.Trans.join Rattle.tree.specs.Trans.joins Rattle.tree.specs.Trans.join_all Rattle.tree.specs.Trans.same_fixed Rattle.tree.specs.Trans.choice Rattle.tree.specs.Trans.let_class Rattle.tree.specs.Trans.row_classes Rattle.tree.specs.Trans.block_class Rattle.tree.specs.Trans.expr_class Rattle.tree.specs.Tree.size Rattle.tree.specs.Tree.size_pairs Rattle.tree.specs.Tree.size_select Rattle.tree.specs.Tree.table_recs Rattle.tree.specs.Tree.encode Rattle.tree.specs.Tree.encode_pairs Rattle.tree.specs.Tree.encode_select Rattle.tree.specs.Tree.tree_file Rattle.view.specs.Ast.first_of Rattle.view.specs.Ast.and_then Rattle.view.specs.Ast.next_of Rattle.view.specs.Parse.enter_node Rattle.view.specs.Parse.enter Rattle.view.specs.Parse.many Rattle.view.specs.Parse.name_of Rattle.view.specs.Parse.names_at Rattle.view.specs.Parse.parse_table Rattle.view.specs.Parse.parse_block Rattle.view.specs.Parse.parse_node Rattle.view.specs.Parse.parse_value Rattle.view.specs.Parse.root_node Rattle.view.specs.Parse.parse_root Rattle.view.specs.Parse.parse_view Rattle.view.specs.Parse.place_of Rattle.view.specs.Parse.check_of Rattle.view.specs.Record.const_of Rattle.view.specs.Record.node_of Rattle.view.specs.Record.node_at Rattle.view.specs.Record.slot_of Rattle.view.specs.Record.const_rec Rattle.word.specs.Buffer.put Rattle.word.specs.Bytes.signed32 Rattle.word.specs.Bytes.bits32 Rattle.word.specs.Bytes.i32_at Rattle.word.specs.Bytes.le16 Rattle.word.specs.Bytes.le32 Rattle.word.specs.Header.headed Rattle.word.specs.Header.header Rattle.word.specs.Record.rec_at Rattle.word.specs.Record.rec_bytes Rattle.resolve.specs.Totals.fold_type Rattle.resolve.specs.Totals.ordered_type Rattle.resolve.specs.Totals.pick_type Rattle.tree.specs.Tree.fold_kind Rattle.tree.specs.Tree.fold_op Rattle.tree.specs.Tree.pick_kind Rattle.run.specs.Run.fold_over Rattle.run.specs.Run.pick_over
+unfolding done given table Rattle.catalogue.specs.Fault.tables_before Rattle.catalogue.specs.Fault.columns_before Rattle.catalogue.specs.Fault.table_used Rattle.catalogue.specs.Fault.column_used Rattle.catalogue.specs.Fault.has_column Rattle.catalogue.specs.Fault.table_fault Rattle.catalogue.specs.Fault.column_fault Rattle.catalogue.specs.Fault.fault_by Rattle.catalogue.specs.Fault.lowest Rattle.catalogue.specs.Fault.check_of Rattle.catalogue.specs.Tables.column_at Rattle.catalogue.specs.Tables.cols_from Rattle.catalogue.specs.Tables.table_at Rattle.catalogue.specs.Tables.tables_from Rattle.catalogue.specs.Tables.catalogue_of Rattle.catalogue.specs.Tables.later Rattle.catalogue.specs.Tables.table_named Rattle.cell.specs.Apply.of3 Rattle.cell.specs.Apply.as3 Rattle.cell.specs.Apply.as_cond Rattle.cell.specs.Apply.cut_fixed Rattle.cell.specs.Apply.cut_time Rattle.cell.specs.Apply.cut_interval Rattle.cell.specs.Apply.product_fixed Rattle.cell.specs.Apply.product_interval Rattle.cell.specs.Apply.sum_n Rattle.cell.specs.Apply.product_n Rattle.cell.specs.Apply.order_n Rattle.cell.specs.Apply.equal_n Rattle.cell.specs.Apply.or_null Rattle.cell.specs.Apply.equal_v Rattle.cell.specs.Apply.settled Rattle.cell.specs.Apply.logic_v Rattle.cell.specs.Apply.apply Rattle.cell.specs.Apply.negate Rattle.cell.specs.Apply.convert Rattle.cell.specs.Res.bind Rattle.cell.specs.Res.or_else Rattle.cell.specs.Res.nth Rattle.cell.specs.Res.map_res Rattle.cell.specs.Types.digits_rule Rattle.cell.specs.Types.type_rule Rattle.cell.specs.Types.type_by Rattle.cell.specs.Types.in_rule Rattle.cell.specs.Types.word_of Rattle.cell.specs.Types.kind_of Rattle.cell.specs.Types.digits_of Rattle.cell.specs.Types.scale_of Rattle.cell.specs.Types.format_of Rattle.cell.specs.Types.wider_of Rattle.cell.specs.Types.sum_type Rattle.cell.specs.Types.product_type Rattle.cell.specs.Types.logic_type Rattle.cell.specs.Types.order_type Rattle.cell.specs.Types.equal_type Rattle.cell.specs.Types.binop_type Rattle.cell.specs.Types.same_type Rattle.cell.specs.Types.limb_type Rattle.cell.specs.Values.is_null Rattle.cell.specs.Values.as_truth Rattle.cell.specs.Values.as_fixed Rattle.cell.specs.Values.as_time Rattle.cell.specs.Values.as_interval Rattle.cell.specs.Values.as_class Rattle.cell.specs.Values.kind_v Rattle.cell.specs.Values.number_in Rattle.class.specs.Class.level Rattle.class.specs.Class.mark Rattle.class.specs.Class.dominatesb Rattle.class.specs.Class.lub_of Rattle.class.specs.Info.info_by Rattle.class.specs.Info.bound_of Rattle.class.specs.Info.info_test Rattle.class.specs.Info.join_i Rattle.class.specs.Info.joins_i Rattle.class.specs.Info.same_i Rattle.class.specs.Info.choice_i Rattle.filter.specs.Jobs.resolved_by Rattle.filter.specs.Jobs.view_by Rattle.filter.specs.Jobs.tree_fits Rattle.filter.specs.Jobs.tree_of Rattle.filter.specs.Jobs.answer_fits Rattle.filter.specs.Jobs.answer_of Rattle.filter.specs.Jobs.over Rattle.filter.specs.Jobs.result_by Rattle.filter.specs.Jobs.held_by Rattle.filter.specs.Jobs.translate Rattle.filter.specs.Jobs.translate_over Rattle.filter.specs.Jobs.answer Rattle.resolve.specs.Resolve.then Rattle.resolve.specs.Resolve.col_out Rattle.resolve.specs.Resolve.class_out Rattle.resolve.specs.Resolve.on_tabs Rattle.resolve.specs.Resolve.ruled Rattle.resolve.specs.Resolve.need_bool Rattle.resolve.specs.Resolve.brought Rattle.resolve.specs.Resolve.resolve Rattle.resolve.specs.Resolve.also_out Rattle.resolve.specs.Resolve.resolve_all Rattle.resolve.specs.Resolve.with_values Rattle.resolve.specs.Resolve.with_test Rattle.resolve.specs.Resolve.with_tabs Rattle.resolve.specs.Resolve.resolve_view Rattle.run.specs.Answer.cell_for Rattle.run.specs.Answer.pair_at Rattle.run.specs.Answer.row_at Rattle.run.specs.Answer.concat Rattle.run.specs.Answer.run_select Rattle.run.specs.Answer.cell_bytes Rattle.run.specs.Answer.row_bytes Rattle.run.specs.Answer.rows_bytes Rattle.run.specs.Answer.answer_file Rattle.run.specs.Run.as_rows Rattle.run.specs.Run.as_local Rattle.run.specs.Run.row_in Rattle.run.specs.Run.cell_in Rattle.run.specs.Run.local_in Rattle.run.specs.Run.class_bound Rattle.run.specs.Run.concat_map Rattle.run.specs.Run.product Rattle.run.specs.Run.rows_for Rattle.run.specs.Run.exists_step Rattle.run.specs.Run.value_step Rattle.run.specs.Run.kept_value Rattle.run.specs.Run.agg_step Rattle.run.specs.Run.run Rattle.scope.specs.Blocks.before Rattle.scope.specs.Blocks.found_at Rattle.scope.specs.Blocks.tables_named Rattle.scope.specs.Blocks.refs_of Rattle.scope.specs.Scopes.only_of Rattle.scope.specs.Scopes.in_cols Rattle.scope.specs.Scopes.in_table Rattle.scope.specs.Scopes.in_tabs Rattle.scope.specs.Scopes.in_scope Rattle.scope.specs.Scopes.nearest Rattle.scope.specs.Scopes.find Rattle.store.specs.Layout.class_rule Rattle.store.specs.Layout.magnitude Rattle.store.specs.Layout.value_rule Rattle.store.specs.Layout.cell_rule Rattle.store.specs.Layout.cell_place Rattle.store.specs.Layout.columns_from Rattle.store.specs.Layout.row_size Rattle.store.specs.Layout.place_after Rattle.store.specs.Layout.place_of Rattle.store.specs.Layout.end_from Rattle.store.specs.Layout.first Rattle.store.specs.Layout.cells_fault Rattle.store.specs.Layout.row_fault Rattle.store.specs.Layout.rows_fault Rattle.store.specs.Layout.table_fault Rattle.store.specs.Layout.fault_from Rattle.store.specs.Layout.verdict_by Rattle.store.specs.Layout.check_of Rattle.store.specs.Layout.files_of Rattle.store.specs.Rows.value_of Rattle.store.specs.Rows.cell_at Rattle.store.specs.Rows.cells_from Rattle.store.specs.Rows.row_at Rattle.store.specs.Rows.rows_from Rattle.store.specs.Rows.table_rows Rattle.store.specs.Rows.tables_rows Rattle.store.specs.Rows.store_of Rattle.tree.specs.Select.test Rattle.tree.specs.Select.table_tests Rattle.tree.specs.Select.conj Rattle.tree.specs.Select.translated Rattle.tree.specs.Trans.expr_data Rattle.tree.specs.Trans.as_tree Rattle.tree.specs.Trans.bound Rattle.tree.specs.Trans.info_of Rattle.tree.specs.Trans.by_info Rattle.tree.specs.Trans.join Rattle.tree.specs.Trans.joins Rattle.tree.specs.Trans.join_all Rattle.tree.specs.Trans.same_fixed Rattle.tree.specs.Trans.choice Rattle.tree.specs.Trans.let_class Rattle.tree.specs.Trans.row_classes Rattle.tree.specs.Trans.block_class Rattle.tree.specs.Trans.expr_class Rattle.tree.specs.Tree.size Rattle.tree.specs.Tree.size_pairs Rattle.tree.specs.Tree.size_select Rattle.tree.specs.Tree.table_recs Rattle.tree.specs.Tree.encode Rattle.tree.specs.Tree.encode_pairs Rattle.tree.specs.Tree.encode_select Rattle.tree.specs.Tree.tree_file Rattle.view.specs.Ast.first_of Rattle.view.specs.Ast.and_then Rattle.view.specs.Ast.next_of Rattle.view.specs.Parse.enter_node Rattle.view.specs.Parse.enter Rattle.view.specs.Parse.many Rattle.view.specs.Parse.name_of Rattle.view.specs.Parse.names_at Rattle.view.specs.Parse.parse_table Rattle.view.specs.Parse.parse_block Rattle.view.specs.Parse.parse_node Rattle.view.specs.Parse.parse_value Rattle.view.specs.Parse.root_node Rattle.view.specs.Parse.parse_root Rattle.view.specs.Parse.parse_view Rattle.view.specs.Parse.place_of Rattle.view.specs.Parse.check_of Rattle.view.specs.Record.const_of Rattle.view.specs.Record.node_of Rattle.view.specs.Record.node_at Rattle.view.specs.Record.slot_of Rattle.view.specs.Record.const_rec Rattle.word.specs.Buffer.put Rattle.word.specs.Bytes.signed32 Rattle.word.specs.Bytes.bits32 Rattle.word.specs.Bytes.i32_at Rattle.word.specs.Bytes.le16 Rattle.word.specs.Bytes.le32 Rattle.word.specs.Header.headed Rattle.word.specs.Header.header Rattle.word.specs.Record.rec_at Rattle.word.specs.Record.rec_bytes Rattle.resolve.specs.Totals.fold_type Rattle.resolve.specs.Totals.ordered_type Rattle.resolve.specs.Totals.pick_type Rattle.tree.specs.Tree.fold_kind Rattle.tree.specs.Tree.fold_op Rattle.tree.specs.Tree.pick_kind Rattle.run.specs.Run.fold_over Rattle.run.specs.Run.pick_over
 worked_cases = refl

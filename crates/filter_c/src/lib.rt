@@ -18,7 +18,7 @@ fn word_of(given: Result<usize, Refusal>) -> u64
     }
 }
 
-// Stays: both exports have many parameters, pointers with their lengths and the two classes: the C interface, wayrinka_translate and wayrinka_answer of include/wayrinka.h (a).
+// Stays: both exports have many parameters, pointers with their lengths and the two classes: the C interface, wayrinka_translate and wayrinka_answer of include/wayrinka.h.
 #[unsafe(no_mangle)]
 pub extern "C" fn wayrinka_translate(
     cat: &[u8],

@@ -147,7 +147,7 @@ fn write_binop(level: &Level, at: usize, writer: &mut Writer, pad: &mut [u64; 10
 }
 
 // LUB of the classes of two values.
-// Stays: IF, a block's rows and its value write such a join by themselves (reason d), since their parts aren't both values; one function would take two closures in the cycle.
+// Stays: IF, a block's rows and its value write such a join by themselves, since their parts aren't both values; one function would take two closures in the cycle.
 #[cycle(write_class)]
 fn write_lub(level: &Level, first: usize, second: usize, writer: &mut Writer, pad: &mut [u64; 1024])
     requires accepted_first { AcceptedIn level.now first }

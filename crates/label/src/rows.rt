@@ -1,6 +1,6 @@
 // The row classes of a block's tables, joined from the left: what is known of them, and their tree written.
 // The definitions are in specs/Rows.
-// Stays: recursions (reason d), as the definition has them; a loop can't write the last join first.
+// Stays: recursions, as the definition has them; a loop can't write the last join first.
 ghost use Rattle.std.specs.Prelude.{◌≡◌, ◌+◌, ◌*◌, ◌≤◌, length};
 ghost use Rattle.word.specs.Writer.{Writes};
 ghost use Rattle.scope.specs.Entry.{Among};

@@ -101,7 +101,7 @@ fn write_known(
 }
 
 // The record after a value, by its end w.
-// Stays: an end is a number (reason a), since resolve's definition `ends_of` has these numbers.
+// Stays: an end is a number, since resolve's definition `ends_of` has these numbers.
 #[tactic(auto, unfolding(crate::specs::Left::end_in))]
 fn end_in(w: u64) -> usize
     ensures { result ≡ end_in w }
@@ -259,7 +259,7 @@ fn test_size(q: u16, b: u16, n: usize) -> usize
 }
 
 // How many the tests of the tables from table j on take.
-// Stays: a recursion (reason d), since the sums stop just above 8,190 at each step from the last table back, as the definition's do.
+// Stays: a recursion, since the sums stop just above 8,190 at each step from the last table back, as the definition's do.
 fn tests_size(s: scope::Scope, cat: &[u8], n: usize, q: u16, j: usize, left: usize) -> usize
     requires { (8 + 8 * n ≤ length cat.now) × Among n s × (j + left ≤ 4) }
     ensures { result ≡ capped (test_size q (classes_in cat.now n s) (rows_in cat.now n s) j left) }

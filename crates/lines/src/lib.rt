@@ -110,7 +110,7 @@ pub fn read_full<R: Read>(from: &mut R, buf: &mut [u8]) -> usize
     ensures count { IsPrefixLen result buf.new }
     ensures same_length { length buf.new ≡ length buf.old }
 {
-    // Stays: a loop over reads, which give as many bytes as they like: no index is counted, and no method of the library answers how many came before an error (d).
+    // Stays: a loop over reads, which give as many bytes as they like: no index is counted, and no method of the library answers how many came before an error.
     let mut done: usize = 0;
     while done < buf.len() {
         match from.read(&mut buf[done..]) {

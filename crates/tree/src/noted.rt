@@ -1,6 +1,6 @@
 // The data of a value written from its notes, in one loop: each record of the view gives one of the tree, with CONV before it where its note is marked.
 // The definitions are in specs/Noted.
-// Stays: a note is a number (reason a), since resolve's definition `notes_of`, over which the law `noted_data` is stated, has these numbers.
+// Stays: a note is a number, since resolve's definition `notes_of`, over which the law `noted_data` is stated, has these numbers.
 ghost use Rattle.std.specs.Prelude.{◌≡◌, ◌+◌, ◌*◌, ◌/◌, ◌≤◌, length};
 ghost use Rattle.word.specs.Writer.{Writes};
 ghost use Rattle.view.specs.Record.{node_at};
