@@ -96,7 +96,7 @@ pub fn record_at(bytes: &[u8], i: usize) -> Record
     }
 }
 
-// Stays: these five read one field where a caller wants one, from any place of a file and without making the record (d).
+// Stays: these five read one field where a caller wants one, from any place of a file and without making the record.
 /// The kind of record i.
 pub fn kind_at(b: &[u8], i: usize) -> u8
     requires { 8 + 8 * i + 8 ≤ length b.now }
