@@ -4,7 +4,7 @@ use Rattle.std.specs.Prelude.{ℕ, ◌+◌, ◌*◌, ◌%◌, ◌≡◌, List, l
 use Rattle.tree.specs.Tree.{SelectTree, size_select, tree_file}
 use Rattle.run.specs.Answer.{answer_file}
 use Rattle.word.specs.Refusal.{Checked, fine, refusal, and_then}
-use Rattle.filter.specs.Jobs.{ tree_of, answer_of, result_by, held_by, Translated, Answered}
+use Rattle.filter.specs.Jobs.{tree_of, answer_of, result_by, held_by, Translated, Answered}
 
 -- the tree, or a refusal: the result, and the tree buffer o afterwards
 pub record TreeGiven (x : Checked SelectTree) (o o' : List ℕ) (r : Checked ℕ) : Type 0 where

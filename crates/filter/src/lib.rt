@@ -71,13 +71,7 @@ fn tree_of(
 
 /// TRANSLATE: the tree of a view, for the class k of its constants and the clearance q, into the buffer `tree`; answers its number of records.
 /// A refusal leaves the buffer as it was. The refusals and their order are in specs/Jobs.
-pub fn translate(
-    cat: &[u8],
-    view: &[u8],
-    k: u16,
-    q: u16,
-    tree: &mut [u8],
-) -> Result<usize, Refusal>
+pub fn translate(cat: &[u8], view: &[u8], k: u16, q: u16, tree: &mut [u8]) -> Result<usize, Refusal>
     ensures { Translated cat.now view.now k q tree.old tree.new (said result) }
 {
     let tables = catalogue::check(cat)?;

@@ -27,7 +27,10 @@ fn rows<W: Write>(to: &mut W, out: &[u8], count: usize, columns: u16) -> io::Res
     let Some(cells) = out.get(8..) else {
         return Ok(());
     };
-    for cells in cells.chunks_exact(8 * usize::from(columns.max(1))).take(count) {
+    for cells in cells
+        .chunks_exact(8 * usize::from(columns.max(1)))
+        .take(count)
+    {
         row(to, cells)?;
     }
     Ok(())

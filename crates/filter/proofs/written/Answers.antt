@@ -15,6 +15,6 @@ returns-then-size-tree c = search (tree_written, rules)
 pub returns-else-size-le8190 : goal.returns-else-size-le8190
 returns-else-size-le8190 c =
     elim c.else-size-le8190.branch [
-      else-size-le8190-via-then-size-le8190+else-size-tree w ↦ tree_large _ _ _ c.measure-size.ensures (λ few. omega (arith, w.if-size-tree.false))
-    | else-size-le8190-via-else-size-le8190 w ↦ tree_large _ _ _ c.measure-size.ensures (λ few. omega (arith, w.if-size-le8190.false))
+      | else-size-le8190-via-then-size-le8190+else-size-tree w ↦ tree_large _ _ _ c.measure-size.ensures (λ few. omega (arith, w.if-size-tree.false))
+      | else-size-le8190-via-else-size-le8190 w ↦ tree_large _ _ _ c.measure-size.ensures (λ few. omega (arith, w.if-size-le8190.false))
     ]
