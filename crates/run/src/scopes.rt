@@ -1,26 +1,17 @@
-// The open scopes in 64 slots, four to a scope: the leaves of a tree look up rows, cells and locals in them.
+// The open scopes in 64 words, four to a scope: the leaves of a tree look up rows, cells and locals in them.
 // A scope is opened in a copy.
+// Stays: words, of which the top bit tells a local; places of an enum, sixteen bytes each, proved, and EXISTS inside a view took 1.2 times as long.
 ghost use Rattle.std.specs.Prelude.{◌≡◌, ◌+◌, ◌*◌, ◌%◌, ◌<◌, ◌≤◌, length, set};
 ghost use Rattle.packed.specs.Packed.{meaning};
 ghost use Rattle.packed.specs.Constants.{const_meaning};
 ghost use Rattle.run.specs.Words.{kind_in, op_in, a_in, b_in, c_in, place_in};
-ghost use Rattle.run.specs.declared.scopes.Slot.TheVariants as S;
-ghost use Rattle.run.specs.Env.{slot_of, row_of, class_slot, Scoped, LeafRight, SlotReady, DataRight, CellClassRight, RowClassRight, LocalRight, LocalClassRight};
+ghost use Rattle.run.specs.Env.{slot_of, row_of, Scoped, LeafRight, SlotReady, DataRight, CellClassRight, RowClassRight, LocalRight, LocalClassRight};
 
 use crate::words::{a_in, b_in, c_in, kind_in, op_in};
 use packed::Outcome;
 
-/// A place of an open scope: the row of one of a block's tables; or a local's value, and its class where BINDC gave one.
-#[derive(Clone, Copy, Debug)]
-pub enum Slot {
-    Empty,
-    Row(u64),
-    Value(Outcome),
-    Class(u16),
-}
-
-// Place b of the scope a scopes outward; empty where there is none.
-fn slot_at(env: &[Slot; 64], d: usize, a: usize, b: usize) -> Slot
+// Word b of the scope a scopes outward; 0 where there is none.
+fn slot(env: &[u64; 64], d: usize, a: usize, b: usize) -> u64
     requires { d ≤ 16 }
     ensures { result ≡ slot_of env.now d a b }
 {
@@ -28,20 +19,18 @@ fn slot_at(env: &[Slot; 64], d: usize, a: usize, b: usize) -> Slot
         if b < 4 {
             return env[4 * (d - 1 - a) + b];
         }
-        return Slot::Empty;
+        return 0;
     }
-    Slot::Empty
+    0
 }
 
 // The word of a row; 0 where there is none.
-fn row_word(env: &[Slot; 64], d: usize, a: usize, b: usize) -> u64
+fn row_word(env: &[u64; 64], d: usize, a: usize, b: usize) -> u64
     requires { d ≤ 16 }
     ensures { result ≡ row_of env.now d a b }
 {
-    match slot_at(env, d, a, b) {
-        Slot::Row(w) => w,
-        _ => 0,
-    }
+    let w = slot(env, d, a, b);
+    if w < 9223372036854775808 { w } else { 0 }
 }
 
 // DATA: the value of cell k of a row.
@@ -87,25 +76,31 @@ fn place_in(w: u64) -> usize
 }
 
 // LOCAL: the value of a local.
-fn local(cat: &[u8], store: &[u8], env: &[Slot; 64], d: usize, a: usize) -> Outcome
+fn local(cat: &[u8], store: &[u8], env: &[u64; 64], d: usize, a: usize) -> Outcome
     requires { Scoped cat.now store.now env.now d }
     ensures { LocalRight cat.now store.now env.now d a result }
 {
-    match slot_at(env, d, a, 0) {
-        Slot::Value(value) => value,
-        _ => Outcome::stuck(),
+    let w = slot(env, d, a, 0);
+    if w < 9223372036854775808 {
+        return Outcome::stuck();
     }
+    Outcome::of_word(w)
 }
 
 // LOCALCLASS: the class of a local, where BINDC gave one.
-fn local_class(cat: &[u8], store: &[u8], env: &[Slot; 64], d: usize, a: usize) -> Outcome
+fn local_class(cat: &[u8], store: &[u8], env: &[u64; 64], d: usize, a: usize) -> Outcome
     requires { Scoped cat.now store.now env.now d }
     ensures { LocalClassRight cat.now store.now env.now d a result }
 {
-    match slot_at(env, d, a, 1) {
-        Slot::Class(class) => Outcome::of_class(class),
-        _ => Outcome::stuck(),
+    let first = slot(env, d, a, 0);
+    if first < 9223372036854775808 {
+        return Outcome::stuck();
     }
+    let w = slot(env, d, a, 1);
+    if w == 0 {
+        return Outcome::stuck();
+    }
+    Outcome::of_class((w % 65536) as u16)
 }
 
 // A constant, by its record's word.
@@ -122,7 +117,7 @@ fn constant(w: u64) -> Outcome
 }
 
 // A leaf, by its record's word.
-pub fn leaf(w: u64, cat: &[u8], store: &[u8], env: &[Slot; 64], d: usize) -> Outcome
+pub fn leaf(w: u64, cat: &[u8], store: &[u8], env: &[u64; 64], d: usize) -> Outcome
     requires { Scoped cat.now store.now env.now d }
     ensures { LeafRight cat.now store.now env.now d w result }
 {
@@ -138,16 +133,14 @@ pub fn leaf(w: u64, cat: &[u8], store: &[u8], env: &[Slot; 64], d: usize) -> Out
     }
 }
 
-/// A scope with a local is opened: its value, and its class where BINDC gave one.
-pub fn opened(env: &[Slot; 64], d: usize, value: Outcome, class: Option<u16>) -> [Slot; 64]
+// A scope with a local is opened: its value's word, and its class's or 0.
+pub fn opened(env: &[u64; 64], d: usize, v: u64, class: u64) -> [u64; 64]
     requires { (d < 16) × (length env.now ≡ 64) }
-    ensures { result ≡ set (set env.now (4 * d) (S.Value value)) (4 * d + 1) (class_slot class) }
+    ensures { result ≡ set (set env.now (4 * d) (v % 8796093022208 + 9223372036854775808)) (4 * d + 1) class }
 {
     let mut mine = *env;
-    mine[4 * d] = Slot::Value(value);
-    mine[4 * d + 1] = match class {
-        Some(class) => Slot::Class(class),
-        None => Slot::Empty,
-    };
+    let at = 4 * d;
+    mine[at] = v % 8796093022208 + 9223372036854775808;
+    mine[at + 1] = class;
     mine
 }

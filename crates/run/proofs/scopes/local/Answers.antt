@@ -3,8 +3,8 @@
 use Rattle.run.proofs.Scoping.{locals}
 use Rattle.run.proofs.scopes.local.Goals as goal
 
-pub returns-in-Value : goal.returns-in-Value
-returns-in-Value c = search locals
+pub returns-then-w-lt9223372036854775808 : goal.returns-then-w-lt9223372036854775808
+returns-then-w-lt9223372036854775808 c = search locals
 
-pub returns-in_default : goal.returns-in_default
-returns-in_default c = search locals
+pub returns : goal.returns
+returns c = search locals

@@ -3,8 +3,11 @@
 use Rattle.run.proofs.Scoping.{locals}
 use Rattle.run.proofs.scopes.local_class.Goals as goal
 
-pub returns-in-Class : goal.returns-in-Class
-returns-in-Class c = search locals
+pub returns-then-first-lt9223372036854775808 : goal.returns-then-first-lt9223372036854775808
+returns-then-first-lt9223372036854775808 c = search locals
 
-pub returns-in_default : goal.returns-in_default
-returns-in_default c = search locals
+pub returns-then-w-eq0 : goal.returns-then-w-eq0
+returns-then-w-eq0 c = search locals
+
+pub returns : goal.returns
+returns c = search locals
