@@ -7,7 +7,6 @@ mod op;
 mod operators;
 mod types;
 
-pub use numbers::power_of_ten;
 pub use op::{NoOp, Op};
 pub use types::{digits_rule, type_by, type_rule};
 

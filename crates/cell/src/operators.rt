@@ -22,7 +22,7 @@ impl Value {
         matches!(self, Value::Null)
     }
 
-    // Stays: s, m, r, n. With a struct of both mantissas at one scale, made by one function, the sum's and the order's proofs stayed open.
+    // Stays: the scales and mantissas s, m, r, n one by one. With a struct of both mantissas at one scale, made by one function, the sum's and the order's proofs stayed open.
     /// The sum or the difference of two fixed values, at so many digits and the larger scale.
     fn sum_fixed(op: Op, digits: u8, s: u8, m: i32, r: u8, n: i32) -> Option<Value>
         ensures { result ≡ option_of (sum_n (number_of op) digits (Fixed s m) (Fixed r n)) }

@@ -198,7 +198,7 @@ impl Type {
         }
     }
 
-    // Stays: one decision over the operators' numbers, in three ranges, as the project's rules name it; so the numbers go on to the two functions above.
+    // Stays: one decision over the operators' numbers, in three ranges, a form that docs/DECISIONS.md names under Forms; so the numbers go on to the two functions above.
     /// The type of an operator over two types, where it has one.
     pub fn binop(op: u8, left: Type, right: Type) -> Option<Type>
         ensures { result ≡ option_of (binop_type op left right) }

@@ -3,16 +3,19 @@
 use Prim.Native.Nat.{ℕ}
 use mathlib.Core.Path.{◌≡◌, sym, ◌∙◌}
 use mathlib.Core.List.{List}
-use Rattle.word.specs.Refusal.{Checked}
+use Rattle.std.specs.Prelude.{Result}
+use Rattle.word.specs.Refusal.{said}
+use Rattle.word.specs.declared.refusal.Refusal.{Refusal}
+use Rattle.word.proofs.Refusals.{said_same}
 use Rattle.filter.specs.Jobs.{Translated, Answered}
 
 module _ (c v : List ℕ) (k q : ℕ) (o : List ℕ) where
   -- TRANSLATE
-  pub only_one : (o₁ o₂ : List ℕ) (r₁ r₂ : Checked ℕ) → Translated c v k q o o₁ r₁ → Translated c v k q o o₂ r₂ → (r₁ ≡ r₂) × (o₁ ≡ o₂)
-  only_one o₁ o₂ r₁ r₂ a b = (a.says ∙ sym b.says, a.holds ∙ sym b.holds)
+  pub only_one : (o₁ o₂ : List ℕ) (r₁ r₂ : Result ℕ Refusal) → Translated c v k q o o₁ (said r₁) → Translated c v k q o o₂ (said r₂) → (r₁ ≡ r₂) × (o₁ ≡ o₂)
+  only_one o₁ o₂ r₁ r₂ a b = (said_same r₁ r₂ (a.says ∙ sym b.says), a.holds ∙ sym b.holds)
 
   -- ANSWER
   module _ (s p : List ℕ) where
-    pub only_one_answer : (o₁ o₂ p₁ p₂ : List ℕ) (r₁ r₂ : Checked ℕ) → Answered c v k q s o p o₁ p₁ r₁ → Answered c v k q s o p o₂ p₂ r₂ →
+    pub only_one_answer : (o₁ o₂ p₁ p₂ : List ℕ) (r₁ r₂ : Result ℕ Refusal) → Answered c v k q s o p o₁ p₁ (said r₁) → Answered c v k q s o p o₂ p₂ (said r₂) →
         (r₁ ≡ r₂) × (o₁ ≡ o₂) × (p₁ ≡ p₂)
-    only_one_answer o₁ o₂ p₁ p₂ r₁ r₂ a b = (a.says ∙ sym b.says, a.tree ∙ sym b.tree, a.holds ∙ sym b.holds)
+    only_one_answer o₁ o₂ p₁ p₂ r₁ r₂ a b = (said_same r₁ r₂ (a.says ∙ sym b.says), a.tree ∙ sym b.tree, a.holds ∙ sym b.holds)

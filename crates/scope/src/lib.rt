@@ -94,7 +94,7 @@ pub fn find(
         name,
         qualifier,
     };
-    // Stays: over `scopes[..depth].iter().rev().enumerate()` it proves as well, and a look-up takes a third longer (34 ns for 26), which the old form meets.
+    // Stays: over `scopes[..depth].iter().rev().enumerate()` it proves as well, and a look-up took 34 ns with it, 26 with this loop.
     for outward in 0..depth {
         match lookup.in_scope(&scopes[depth - outward - 1], outward as u16) {
             Found::None => {}

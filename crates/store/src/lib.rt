@@ -14,9 +14,9 @@ mod places;
 pub use places::{Span, cell_bits, cell_class, cell_null, cell_value, row_class, table_spans};
 use word::{Reason, Refusal};
 
-// Stays: readers of this crate's own; `check_over`, `row_size` and `table_spans` promise an answer for a catalogue of any bytes, and a byte past the end counts as 0.
+// Stays: `byte` and `half`, readers of this crate's own; `check_over`, `row_size` and `table_spans` promise an answer for a catalogue of any bytes, and a byte past the end counts as 0.
 
-// Stays: a table of powers of ten; `pow` and a `match` (cell::power_of_ten) proved, and with either the check of a full store took a fifth longer or more.
+// Stays: a table of powers of ten; a `match` as crate cell has it proved, and with it the check of a full store took 1.17 times as long.
 const TENS: [u64; 16] = [
     1,
     10,
@@ -64,7 +64,7 @@ fn half(bytes: &[u8], at: usize) -> u16
     }
 }
 
-// Stays: a record's fields one by one; a whole `Record` for each cell proved, and the check of a full store took three times as long.
+// Stays: a record's fields one by one; a whole `Record` for each cell proved, and the check of a full store took 2.3 to 2.9 times as long.
 // The kind of record i.
 fn kind(cat: &[u8], i: usize) -> u8
     requires { i < 2080 }

@@ -63,7 +63,7 @@ pub fn write_d(level: &Level, at: usize, writer: &mut Writer, pad: &mut [u64; 10
             }
         }
         view::Node::Binop(op) => {
-            // Stays: this record is put last, since its digits are known only once the operands' types are, and to walk them twice would cost more.
+            // Stays: this record is put last, since its digits are known only once the operands' types are, and to know them first the operands would be walked twice.
             let place = writer.at;
             writer.at += 8;
             let x = write_d(&down, next, writer, pad);

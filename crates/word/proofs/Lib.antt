@@ -2,3 +2,4 @@
 -- Assumes nothing.
 pub mod Laws
 pub mod Writing
+pub mod Refusals
