@@ -32,9 +32,10 @@ use Rattle.scope.specs.declared.Scope.{Scope}
 use Rattle.scope.proofs.Named.{BlockOpened, block_opened, names_length}
 use Rattle.resolve.specs.Expr.{Expr, Select}
 use Rattle.resolve.specs.Resolve.{good, resolve, goods, resolve_all, Resolved, select, refused as denied, resolve_view}
-use Rattle.resolve.specs.Claims.{Lent, resolved_by, verdict_of, Narrow, Tabled}
+use Rattle.resolve.specs.Claims.{or_no_table, Lent, resolved_by, verdict_of, Narrow, Tabled}
 use Rattle.resolve.specs.declared.Files.{Files}
 use Rattle.resolve.specs.declared.Sums.{Sums}
+use Rattle.resolve.proofs.Entries.{entry_made}
 use Rattle.resolve.proofs.Inversion.{ViewGood, view_good, all_good}
 use Rattle.tree.specs.Tree.{Tree, size, size_pairs, size_select, table_recs, encode, encode_pairs, encode_select, tree_file}
 use Rattle.tree.specs.Trans.{expr_data, expr_class, Class, as_tree, bound, nums}
@@ -221,9 +222,9 @@ module _ (c ss v : List ℕ) (f : Files) (w : Viewed c ss v f) (tables values : 
         found = from_is ∙ ap all (sym refs_are);
       }
 
-  module _ (o : Scope) (p : fine o ≡ opened_by ss (tables_named (tables_from c f.nc f.nc 0) (names_at v 1 tables))) where
+  module _ (o : Scope) (p : fine o ≡ or_no_table (opened_by ss (tables_named (tables_from c f.nc f.nc 0) (names_at v 1 tables)))) where
     pub entry : BlockOpened c f.nc (tables_named (tables_from c f.nc f.nc 0) (names_at v 1 tables)) o
-    entry = block_opened c f.nc f.tables ss v 1 tables o w.given.starts w.given.cat_few (some_tables, few_tables) p
+    entry = block_opened c f.nc f.tables ss v 1 tables o w.given.starts w.given.cat_few (some_tables, few_tables) (entry_made _ o p)
 
     scopes_are : scopes_of c f.nc (replicate 16 o) 1 ≡ opened (select_at c v f).from ∷ []
     unfolding scopes_of

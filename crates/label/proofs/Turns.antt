@@ -27,7 +27,7 @@ use Rattle.scope.specs.Entry.{count_in, local_scope, opened_by, tables_in, rows_
 use Rattle.scope.specs.declared.Scope.{Scope}
 use Rattle.scope.specs.declared.Found.{Found}
 use Rattle.resolve.specs.Infos.{table_class}
-use Rattle.resolve.specs.Claims.{block_node}
+use Rattle.resolve.specs.Claims.{or_no_table, block_node}
 use Rattle.resolve.specs.declared.Asked.{Asked}
 use Rattle.resolve.specs.declared.Asked.TheVariants as ask
 use Rattle.resolve.specs.declared.Files.{Files}
@@ -288,7 +288,7 @@ module _ {c ss v : List ℕ} {f : Files} {t : List Scope} {deep d at : ℕ} (w :
 
   -- A BLOCK, by what is asked of it
   module _ (asked : Asked) (count : ℕ) (g : node_at v at ≡ block_node asked count) {o : Scope}
-      (p : fine o ≡ opened_by ss (tables_named (tables_from c f.nc f.nc 0) (names_at v (at + 1) count))) {u : List Scope} (q : u ≡ set t deep o) where
+      (p : fine o ≡ or_no_table (opened_by ss (tables_named (tables_from c f.nc f.nc 0) (names_at v (at + 1) count)))) {u : List Scope} (q : u ≡ set t deep o) where
     pub opened_there : BlockIs c ss v f t u deep d at count o
     opened_there = block_is c ss v f t deep d at w asked count g o p u q
 

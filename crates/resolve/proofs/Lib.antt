@@ -6,6 +6,7 @@ pub mod Narrow
 pub mod Weights
 pub mod Leaves
 pub mod Tables
+pub mod Entries
 pub mod Equations
 pub mod Turns
 pub mod Scoped

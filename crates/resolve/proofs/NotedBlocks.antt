@@ -21,7 +21,7 @@ use Rattle.scope.specs.Entry.{opened_by}
 use Rattle.scope.specs.declared.Scope.{Scope}
 use Rattle.resolve.specs.Resolve.{good, resolve}
 use Rattle.resolve.specs.Notes.{notes_of, numbers_at}
-use Rattle.resolve.specs.Claims.{Ready, answer_at, block_node}
+use Rattle.resolve.specs.Claims.{or_no_table, Ready, answer_at, block_node}
 use Rattle.resolve.specs.declared.Asked.{Asked}
 use Rattle.resolve.specs.declared.Asked.TheVariants as ask
 use Rattle.resolve.specs.declared.Files.{Files}
@@ -42,7 +42,7 @@ unfolding refs_of
 refs_are T ts e = rw e
 
 module _ (c ss v : List ℕ) (f : Files) (t : List Scope) (deep d at : ℕ) (w : Ready c ss v f t deep d at) (asked : Asked) (count : ℕ) (g : node_at v at ≡ block_node asked count)
-    (b : Scope) (p : fine b ≡ opened_by ss (tables_named (tables_from c f.nc f.nc 0) (names_at v (at + 1) count))) (u : List Scope) (q : u ≡ set t deep b)
+    (b : Scope) (p : fine b ≡ or_no_table (opened_by ss (tables_named (tables_from c f.nc f.nc 0) (names_at v (at + 1) count)))) (u : List Scope) (q : u ≡ set t deep b)
     (o o₁ o₂ o₃ : List ℕ) (h₁ : o₁ ≡ set o at 0) (h₂ : o₂ ≡ put o₁ (at + 1) (numbers_at c f.nc v (at + 1) count)) (h₃ : NotedAt c v f u (deep + 1) (d - 1) (at + 1 + count) o₂ o₃) where
   abbrev cat : List Table
   cat = tables_from c f.nc f.nc 0

@@ -29,7 +29,7 @@ use Rattle.resolve.specs.Resolve.{Out, good, bad, resolve, Outs, goods, bads, al
 use Rattle.resolve.specs.Notes.{notes_of, Noted, NotedBy, notes_all, NotedAll, NotedView, end_note, ends_of, EndedAll, EndedView}
 use Rattle.resolve.specs.Infos.{class_info}
 use Rattle.resolve.specs.Typed.{known_of, typed_by}
-use Rattle.resolve.specs.Claims.{answer_at, Rooted, resolved_by, resolved_all, verdict_of, verdict_all}
+use Rattle.resolve.specs.Claims.{or_no_table, answer_at, Rooted, resolved_by, resolved_all, verdict_of, verdict_all}
 use Rattle.resolve.specs.declared.Files.{Files}
 use Rattle.resolve.specs.declared.Known.{Known}
 use Rattle.resolve.specs.declared.Sums.{Sums}
@@ -201,7 +201,7 @@ test_ended k is ts (good x t) (bads i p) at next n o o₁ o₂ m h g a l = g ∙
 test_ended k is ts (bad i p) vs at next n o o₁ o₂ m h g a l = all_ends k is vs next 1 o₁ o₂ g ∙ ap length h ∙ length-set o 0 n
 
 module _ (c ss v : List ℕ) (f : Files) (tables count : ℕ) (w : Rooted c ss v f tables count) (b : Scope)
-    (q : fine b ≡ opened_by ss (tables_named (tables_from c f.nc f.nc 0) (names_at v 1 tables)))
+    (q : fine b ≡ or_no_table (opened_by ss (tables_named (tables_from c f.nc f.nc 0) (names_at v 1 tables))))
     (l : Checked Known) (a : l ≡ answer_at c v f (replicate 16 b) 1 15 (1 + tables)) (x : Known) (g : l ≡ fine x) where
   module _ (o o₁ o₂ : List ℕ)
       (h : NotedBy (tables_from c f.nc f.nc 0) (scopes_of c f.nc (replicate 16 b) 1) (parse_value v f.n 15 (1 + tables)) (1 + tables) o o₁)

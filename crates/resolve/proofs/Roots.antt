@@ -37,10 +37,11 @@ use Rattle.resolve.specs.Notes.{NotedView, EndedView}
 use Rattle.resolve.specs.Infos.{class_info}
 use Rattle.resolve.specs.Sizes.{size_d, weigh, capped, pairs_size, sums_of}
 use Rattle.resolve.specs.Typed.{known_of}
-use Rattle.resolve.specs.Claims.{Narrow, Ready, answer_at, Accepted, Rooted, Several, resolved_by, resolved_all, verdict_of, verdict_all}
+use Rattle.resolve.specs.Claims.{or_no_table, Narrow, Ready, answer_at, Accepted, Rooted, Several, resolved_by, resolved_all, verdict_of, verdict_all}
 use Rattle.resolve.specs.declared.Files.{Files}
 use Rattle.resolve.specs.declared.Known.{Known}
 use Rattle.resolve.specs.declared.Sums.{Sums}
+use Rattle.resolve.proofs.Entries.{entry_made, entry_missing}
 use Rattle.resolve.proofs.Inversion.{GoodAt, typed_known, typed_refused}
 use Rattle.resolve.proofs.Narrow.{narrow_entry}
 use Rattle.resolve.proofs.Turns.{after}
@@ -203,16 +204,16 @@ module _ (c ss v : List ℕ) (f : Files) (tables count : ℕ) (w : Rooted c ss v
   pub root_room : 8 + 8 * (1 + tables) ≤ length v
   root_room = let h = where_here in omega arith
 
-  pub root_6 : (i k : ℕ) → refusal i k ≡ opened_by ss (tables_named (tables_from c f.nc f.nc 0) (names_at v 1 tables))
+  pub root_6 : (i k : ℕ) → refusal i k ≡ or_no_table (opened_by ss (tables_named (tables_from c f.nc f.nc 0) (names_at v 1 tables)))
       → refusal i k ≡ verdict_of f.k (resolved_by (tables_from c f.nc f.nc 0) (parse_block v f.n 15 (parse_value v f.n 15) tables count 1))
   unfolding with_tabs verdict_of
   root_6 i k q =
-      let m = block_missing c f.nc f.tables ss v 1 tables i k (let h = w.few_tables in omega arith) q in
-      ap (λ (z : ℕ). refusal z k) m.0 ∙ sym (by_tables ∙ rw m.1)
+      let m = entry_missing _ i k q in
+      ap (λ (z : ℕ). refusal z k) m.0 ∙ sym (by_tables ∙ rw (block_missing c f.nc f.tables ss v 1 tables k m.1).0)
 
-  module _ (own : Scope) (q : fine own ≡ opened_by ss (tables_named (tables_from c f.nc f.nc 0) (names_at v 1 tables))) where
+  module _ (own : Scope) (q : fine own ≡ or_no_table (opened_by ss (tables_named (tables_from c f.nc f.nc 0) (names_at v 1 tables)))) where
     pub there : BlockOpened c f.nc (tables_named (tables_from c f.nc f.nc 0) (names_at v 1 tables)) own
-    there = block_opened c f.nc f.tables ss v 1 tables own w.lent.starts w.lent.cat_few (w.some_tables, w.few_tables) q
+    there = block_opened c f.nc f.tables ss v 1 tables own w.lent.starts w.lent.cat_few (w.some_tables, w.few_tables) (entry_made _ own q)
 
     abbrev t : List Scope
     t = replicate 16 own

@@ -33,11 +33,12 @@ use Rattle.scope.proofs.Pushes as push
 use Rattle.scope.proofs.Named.{BlockOpened, block_missing, block_opened, names_length}
 use Rattle.resolve.specs.Typed.{known_of, typed_by}
 use Rattle.resolve.specs.Steps.{let_k, refs_to, exists_t, single_t}
-use Rattle.resolve.specs.Claims.{Narrow, Ready, Opening, Tabled, answer_at, block_node}
+use Rattle.resolve.specs.Claims.{or_no_table, Narrow, Ready, Opening, Tabled, answer_at, block_node}
 use Rattle.resolve.specs.declared.Asked.{Asked}
 use Rattle.resolve.specs.declared.Asked.TheVariants as ask
 use Rattle.resolve.specs.declared.Files.{Files}
 use Rattle.resolve.specs.declared.Known.{Known}
+use Rattle.resolve.proofs.Entries.{entry_made, entry_missing}
 use Rattle.resolve.proofs.Inversion.{typed_known}
 use Rattle.resolve.proofs.Narrow.{narrow_push, narrow_entry, narrow_local, narrow_type}
 use Rattle.resolve.proofs.Equations.{then_t, let_step, exists_step, exists_missing, single_step, single_missing}
@@ -173,19 +174,19 @@ module _ (c ss v : List ℕ) (f : Files) where
     single_two q e = read.single_read v f.n d at w.is_read refl (single_here q e)
 
     -- a table that is missing
-    pub block_6 : (i k : ℕ) → refusal i k ≡ opened_by ss (tables_named (tables_from c f.nc f.nc 0) (names_at v (at + 1) count)) → refusal i k ≡ answer_at c v f t deep d at
-    block_6 i k p = ap (λ (z : ℕ). refusal z k) m.0 ∙ go asked refl
+    pub block_6 : (i k : ℕ) → refusal i k ≡ or_no_table (opened_by ss (tables_named (tables_from c f.nc f.nc 0) (names_at v (at + 1) count))) → refusal i k ≡ answer_at c v f t deep d at
+    block_6 i k p = ap (λ (z : ℕ). refusal z k) (entry_missing _ i k p).0 ∙ go asked refl
       where
-        m : (i ≡ 6) × (tables_named (tables_from c f.nc f.nc 0) (names_at v (at + 1) count) ≡ missing k)
-        m = block_missing c f.nc f.tables ss v (at + 1) count i k (let h = block_next in omega arith) p
+        m : tables_named (tables_from c f.nc f.nc 0) (names_at v (at + 1) count) ≡ missing k
+        m = (block_missing c f.nc f.tables ss v (at + 1) count k (entry_missing _ i k p).1).0
 
         go : (b : Asked) → asked ≡ b → refusal 6 k ≡ answer_at c v f t deep d at
-        go (ask.Rows q) e = sym (exists_missing f.k cat _ _ _ at _ (at + 1 + count) _ q k (exists_one q e) m.1)
-        go (ask.Values q) e = sym (single_missing f.k cat _ _ _ at _ (at + 1 + count) _ q k (single_two q e) m.1)
+        go (ask.Rows q) e = sym (exists_missing f.k cat _ _ _ at _ (at + 1 + count) _ q k (exists_one q e) m)
+        go (ask.Values q) e = sym (single_missing f.k cat _ _ _ at _ (at + 1 + count) _ q k (single_two q e) m)
 
-    module _ (own : Scope) (p : fine own ≡ opened_by ss (tables_named (tables_from c f.nc f.nc 0) (names_at v (at + 1) count))) where
+    module _ (own : Scope) (p : fine own ≡ or_no_table (opened_by ss (tables_named (tables_from c f.nc f.nc 0) (names_at v (at + 1) count)))) where
       pub there : BlockOpened c f.nc (tables_named (tables_from c f.nc f.nc 0) (names_at v (at + 1) count)) own
-      there = block_opened c f.nc f.tables ss v (at + 1) count own w.lent.starts w.lent.cat_few (few asked refl) p
+      there = block_opened c f.nc f.tables ss v (at + 1) count own w.lent.starts w.lent.cat_few (few asked refl) (entry_made _ own p)
 
       pub block_opening : Opening c f.nc own
       block_opening =

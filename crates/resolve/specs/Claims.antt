@@ -1,6 +1,6 @@
 -- What the walk requires of its caller, and its answer for a whole view.
 -- Assumes nothing.
-use Rattle.std.specs.Prelude.{ℕ, ◌+◌, ◌*◌, ◌<◌, ◌≤◌, ◌≡◌, List, length, get_or}
+use Rattle.std.specs.Prelude.{ℕ, ◌+◌, ◌*◌, ◌<◌, ◌≤◌, ◌≡◌, List, length, get_or, Result, Ok, Err}
 use Rattle.word.specs.Refusal.{Checked, fine, refusal}
 use Rattle.class.specs.declared.Info.{Info}
 use Rattle.cell.specs.Types.{digits_of, scale_of}
@@ -33,6 +33,11 @@ pub record Lent (c ss v : List ℕ) (f : Files) : Type 0 where
   pub starts : StartsAre c f.nc f.tables ss
   pub view_long : 8 + 8 * f.n ≤ length v
   pub view_few : f.n ≤ 1024
+
+-- a block's entry, or 6 at the TABLE record whose table is not in the catalogue
+abbrev pub or_no_table : Result Scope ℕ → Checked Scope
+or_no_table (Ok s) = fine s
+or_no_table (Err p) = refusal 6 p
 
 -- p and s of a fixed type are below 16, so that 16p+s is a byte
 pub record Narrow (t : Ty) : Type 0 where

@@ -1,21 +1,50 @@
-// What is known of a block from what is known of its where and its value, over the entry of the block's scope.
+// A block's entry, and what is known of a block from what is known of its where and its value, over that entry.
 // The tables' row classes and their own classes are looked up in the catalogue.
-ghost use Rattle.std.specs.Prelude.{◌≡◌, ◌≤◌, min, [], ◌∷◌};
+ghost use Rattle.std.specs.Prelude.{◌≡◌, ◌+◌, ◌*◌, ◌≤◌, length, min, [], ◌∷◌};
 ghost use Rattle.word.specs.Refusal.{said};
 ghost use Rattle.class.specs.Class.{lub_all};
 ghost use Rattle.class.specs.Info.{bound_of, join_i, choice_i};
 ghost use Rattle.class.specs.declared.Info.TheVariants.{Fixed, Bound};
 ghost use Rattle.scope.specs.Table.{open_of};
-ghost use Rattle.scope.specs.Entry.{count_in, tables_in, classes_of};
+ghost use Rattle.scope.specs.Blocks.{tables_named};
+ghost use Rattle.scope.specs.Entry.{count_in, opened_by, tables_in, classes_of};
+ghost use Rattle.view.specs.Parse.{names_at};
+ghost use Rattle.catalogue.specs.Tables.{tables_from};
 ghost use Rattle.resolve.specs.Infos.{block_i};
 ghost use Rattle.resolve.specs.Sizes.{weighed, joins_w, join_all_w, choice_w, rows_w};
 ghost use Rattle.resolve.specs.Steps.{class_of, stopped, agg_w, refs_to, exists_k, single_k, exists_t, single_t};
-ghost use Rattle.resolve.specs.Claims.{Opening};
+ghost use Rattle.resolve.specs.Claims.{Lent, Opening, or_no_table};
 
 use crate::steps::{plus, wrong_type};
 use crate::totals::{fold_type, pick_type};
-use crate::{Known, Weighed};
-use word::Refusal;
+use crate::{Known, Source, Weighed};
+use word::{Reason, Refusal};
+
+/// The entry of a block whose TABLE records stand from record `at` on; or `NoTable` at the first of them whose table isn't in the catalogue.
+pub fn open_block(source: &Source, at: usize, count: usize) -> Result<scope::Scope, Refusal>
+    requires lent { Lent source.now.cat.now source.now.starts.now source.now.view.now source.now.files }
+    requires count_in_bounds { 8 + 8 * (at + count) ≤ length source.now.view.now }
+    requires count_bound { count ≤ 4 }
+    requires place_bound { at + count ≤ 65536 }
+    ensures { said result ≡ or_no_table (opened_by source.now.starts.now (tables_named (tables_from source.now.cat.now source.now.files.nc source.now.files.nc 0) (names_at source.now.view.now at count))) }
+{
+    let files = source.files;
+    match scope::open_block(
+        source.cat,
+        files.nc,
+        source.starts,
+        files.tables,
+        source.view,
+        at,
+        count,
+    ) {
+        Ok(own) => Ok(own),
+        Err(place) => Err(Refusal {
+            reason: Reason::NoTable,
+            place: place as u16,
+        }),
+    }
+}
 
 /// AGG over what is read at one row, of m tables, joined with the tables' class k.
 #[tactic(auto, using(crate::proofs::Tables::rowed))]

@@ -216,15 +216,7 @@ fn block(
     let nc = source.files.nc;
     let down = depth - 1;
     let next = at + 1;
-    let own = scope::open_block(
-        cat,
-        nc,
-        source.starts,
-        source.files.tables,
-        source.view,
-        next,
-        count,
-    )?;
+    let own = blocks::open_block(source, next, count)?;
     notes::note(notes, at, 0);
     notes::tables(source, next, count, notes);
     let test = within(source, next + count, down, held, deep, own, notes)?;

@@ -6,6 +6,7 @@ ghost use Rattle.scope.specs.Table.{infos_of};
 ghost use Rattle.resolve.specs.Notes.{NotedAll, NotedView, EndedAll, EndedView};
 ghost use Rattle.resolve.specs.Claims.{AcceptedIn, RootedIn, SeveralIn, values_in, root_in, view_in, verdict_of, verdict_all};
 
+use crate::blocks::open_block;
 use crate::notes::{end_note, leave};
 use crate::steps::{plus, wrong_type};
 use crate::{Source, Sums, value};
@@ -50,16 +51,7 @@ fn root(
     ensures noted_view { NotedView (root_in source.now tables count) notes.old notes.new }
     ensures ended_view { EndedView source.now.files.k (root_in source.now tables count) ends.old ends.new }
 {
-    let files = source.files;
-    let own = scope::open_block(
-        source.cat,
-        files.nc,
-        source.starts,
-        files.tables,
-        source.view,
-        1,
-        tables,
-    )?;
+    let own = open_block(source, 1, tables)?;
     let mut held = [own; 16];
     let test = value(source, 1 + tables, 15, &mut held, 1, notes)?;
     leave(ends, 0, end_note(test));

@@ -1,6 +1,6 @@
 -- A block's tables by their names: what the catalogue says of each, what the entry made of them opens, and the names as they were read.
 -- Assumes nothing.
-use Rattle.std.specs.Prelude.{Option, Some, None}
+use Rattle.std.specs.Prelude.{Option, Some, None, Result, Ok, Err}
 use Prim.Native.Nat.{ℕ, zero, suc, ◌+◌, ◌-◌, ◌<◌, ◌≤◌, min}
 use mathlib.Core.Path.{◌≡◌, refl, sym, ap, subst, ◌∙◌}
 use mathlib.Core.Bool.{Bool, true, false, cond}
@@ -10,7 +10,6 @@ use native.Mathlib.Decide.{dec_lt}
 use lib.Dec.{eqb}
 use lib.ListN.{get_or, length, length-map, replicate}
 use Rattle.word.specs.Buffer.{put}
-use Rattle.word.specs.Refusal.{Checked, fine, refusal}
 use Rattle.word.specs.Record.{a_at}
 use Rattle.word.proofs.Writing.{put_at, put_after}
 use Rattle.class.specs.declared.Info.TheVariants.{Fixed}
@@ -162,34 +161,31 @@ module _ (c : List ℕ) (n tables : ℕ) (ss : List ℕ) (v : List ℕ) (at coun
         counted = refl;
       }
 
-  pub block_opened : (s : Scope) → StartsAre c n tables ss → n ≤ 2080 → (1 ≤ count) × (count ≤ 4) → fine s ≡ opened_by ss (tables_named (tables_from c n n 0) (names_at v at count))
+  pub block_opened : (s : Scope) → StartsAre c n tables ss → n ≤ 2080 → (1 ≤ count) × (count ≤ 4) → Ok s ≡ opened_by ss (tables_named (tables_from c n n 0) (names_at v at count))
       → BlockOpened c n (tables_named (tables_from c n n 0) (names_at v at count)) s
   unfolding opened_by
   block_opened s a b l e = go (tables_named (tables_from c n n 0) (names_at v at count)) refl e
     where
-      go : (T : Tabs) → tables_named (tables_from c n n 0) (names_at v at count) ≡ T → fine s ≡ opened_by ss T → BlockOpened c n T s
+      go : (T : Tabs) → tables_named (tables_from c n n 0) (names_at v at count) ≡ T → Ok s ≡ opened_by ss T → BlockOpened c n T s
       go (all ts) x y =
           let z : block_scope (put (replicate 4 0) 0 (places_of ss ts)) (length ts) ≡ s = cc in
           subst (λ (u : Scope). BlockOpened c n (all ts) u) z (entry_says ts a b l x)
       go (missing p) x y = absurd (let z : ◌≡◌ {A = ℕ} 0 1 = cc in omega arith)
 
-  -- a refusal is 6, at the first TABLE record whose table is not in the catalogue
-  pub block_missing : (k p : ℕ) → at + count ≤ 65536 → refusal k p ≡ opened_by ss (tables_named (tables_from c n n 0) (names_at v at count))
-      → (k ≡ 6) × (tables_named (tables_from c n n 0) (names_at v at count) ≡ missing p)
-  block_missing k p l e = go (tables_named (tables_from c n n 0) (names_at v at count)) refl e
+  -- where no entry is made, the record said is the first TABLE whose table is not in the catalogue, and one of the block's
+  pub block_missing : (p : ℕ) → Err p ≡ opened_by ss (tables_named (tables_from c n n 0) (names_at v at count)) → (tables_named (tables_from c n n 0) (names_at v at count) ≡ missing p) × (p < at + count)
+  block_missing p e = go (tables_named (tables_from c n n 0) (names_at v at count)) refl e
     where
-      go : (T : Tabs) → tables_named (tables_from c n n 0) (names_at v at count) ≡ T → refusal k p ≡ opened_by ss T → (k ≡ 6) × (T ≡ missing p)
+      go : (T : Tabs) → tables_named (tables_from c n n 0) (names_at v at count) ≡ T → Err p ≡ opened_by ss T → (T ≡ missing p) × (p < at + count)
       go (all ts) x y = absurd (unfold opened_by in let z : ◌≡◌ {A = ℕ} 0 1 = cc in omega arith)
       go (missing q) x y =
           let h = missing_first (tables_from c n n 0) v at count q x in
-          let f : k ≡ 6 = unfold opened_by in cc in
-          let g : p ≡ min q 65535 = unfold opened_by in cc in
-          let z : q ≡ p = omega arith in
-          (f, ap missing z)
+          let z : q ≡ p = unfold opened_by in cc in
+          (ap missing z, rw (← z) h)
 
   -- where the tables are there, the block is opened
-  pub block_fine : (ts : List TabRef) (x : Checked Scope) → tables_named (tables_from c n n 0) (names_at v at count) ≡ all ts → x ≡ opened_by ss (tables_named (tables_from c n n 0) (names_at v at count))
-      → x ≡ fine (block_scope (put (replicate 4 0) 0 (places_of ss ts)) (length ts))
+  pub block_fine : (ts : List TabRef) (x : Result Scope ℕ) → tables_named (tables_from c n n 0) (names_at v at count) ≡ all ts → x ≡ opened_by ss (tables_named (tables_from c n n 0) (names_at v at count))
+      → x ≡ Ok (block_scope (put (replicate 4 0) 0 (places_of ss ts)) (length ts))
   unfolding opened_by
   block_fine ts x e f = f ∙ rw e
 

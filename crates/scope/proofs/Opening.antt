@@ -1,7 +1,7 @@
 -- Entries made: a local's, and a block's as its tables are looked up one after the other; one law for each place of the code.
 -- Assumes nothing.
-use Rattle.std.specs.Prelude.{Option, Some, None}
-use Prim.Native.Nat.{ℕ, suc, ◌+◌, ◌-◌, ◌<◌, ◌≤◌, min}
+use Rattle.std.specs.Prelude.{Option, Some, None, Result, Ok, Err}
+use Prim.Native.Nat.{ℕ, suc, ◌+◌, ◌-◌, ◌<◌, ◌≤◌}
 use mathlib.Core.Path.{◌≡◌, refl, sym, ◌∙◌}
 use mathlib.Core.List.{List, [], ◌∷◌}
 use native.Mathlib.Omega.{arith}
@@ -9,7 +9,6 @@ use native.Mathlib.Numerals.{add-one}
 use borrow.Author.Rules.{rules}
 use lib.ListN.{get_or, length, set}
 use Rattle.word.specs.Buffer.{put}
-use Rattle.word.specs.Refusal.{Checked, fine, refusal}
 use Rattle.catalogue.specs.Tables.{TabRef, table_at, tables_from, table_named}
 use Rattle.catalogue.specs.Starts.{ref_of}
 use Rattle.view.specs.Record.{node_at}
@@ -20,9 +19,9 @@ use Rattle.scope.specs.declared.Scope.{Scope}
 use Rattle.scope.specs.declared.Scope.TheVariants as S
 
 -- a block of which j tables are looked up, their records in ws; what is left of its tables
-unfoldable pub open_from : List ℕ → List ℕ → ℕ → Tabs → Checked Scope
-open_from ss ws j (all ts) = fine (block_scope (put ws j (places_of ss ts)) (j + length ts))
-open_from ss ws j (missing p) = refusal 6 (min p 65535)
+unfoldable pub open_from : List ℕ → List ℕ → ℕ → Tabs → Result Scope ℕ
+open_from ss ws j (all ts) = Ok (block_scope (put ws j (places_of ss ts)) (j + length ts))
+open_from ss ws j (missing p) = Err p
 
 module _ (c : List ℕ) (n : ℕ) (ss : List ℕ) (tables : ℕ) (v : List ℕ) (at count : ℕ) where
   unfoldable pub tabs_left : ℕ → Tabs
@@ -48,8 +47,8 @@ module _ (c : List ℕ) (n : ℕ) (ss : List ℕ) (tables : ℕ) (v : List ℕ) 
   one_more ws j t (all ts) = let e : j + suc (length ts) ≡ suc j + length ts = omega arith in rw (add-one j, e)
   one_more ws j t (missing p) = refl
 
-  module _ (ws : List ℕ) (j : ℕ) (X : Checked Scope) (x : X ≡ open_from ss ws j (tabs_left j)) (h : j < count) (r : Option ℕ) (g : table_named (name_of (node_at v (at + j))) (tables_from c n n 0) ≡ ref_of c n ss r) where
-    pub open_missing : r ≡ None → refusal 6 (min (at + j) 65535) ≡ X
+  module _ (ws : List ℕ) (j : ℕ) (X : Result Scope ℕ) (x : X ≡ open_from ss ws j (tabs_left j)) (h : j < count) (r : Option ℕ) (g : table_named (name_of (node_at v (at + j))) (tables_from c n n 0) ≡ ref_of c n ss r) where
+    pub open_missing : r ≡ None → Err (at + j) ≡ X
     unfolding found_at ref_of open_from
     open_missing e = sym (x ∙ rw (tabs_next j h, g, e))
 
@@ -57,7 +56,7 @@ module _ (c : List ℕ) (n : ℕ) (ss : List ℕ) (tables : ℕ) (v : List ℕ) 
     unfolding found_at ref_of
     open_again k e = x ∙ rw (tabs_next j h, g, e) (one_more ws j (record { num = k; table = table_at c n (get_or ss k 0) }) (tabs_left (j + 1)))
 
-  pub open_done : (ws : List ℕ) (j : ℕ) (X : Checked Scope) → X ≡ open_from ss ws j (tabs_left j) → count ≤ j → j ≤ count → fine (S.Block (record { tables = ws; count = count })) ≡ X
+  pub open_done : (ws : List ℕ) (j : ℕ) (X : Result Scope ℕ) → X ≡ open_from ss ws j (tabs_left j) → count ≤ j → j ≤ count → Ok (S.Block (record { tables = ws; count = count })) ≡ X
   unfolding open_from tabs_left names_at tables_named put block_scope
   open_done ws j X x h l = let e : count - j ≡ 0 = omega arith in let f : j + 0 ≡ count = omega arith in sym (x ∙ rw (e, f))
 

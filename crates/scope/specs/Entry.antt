@@ -1,8 +1,7 @@
 -- Entries of the table of open scopes: what one says, how a local's and a block's are made, and what is asked of a block's tables.
 -- Assumes nothing.
-use Rattle.std.specs.Prelude.{ℕ, ◌<◌, min, List, [], map, get_or, length, replicate}
+use Rattle.std.specs.Prelude.{ℕ, ◌<◌, List, [], map, get_or, length, replicate, Result, Ok, Err}
 use Rattle.word.specs.Buffer.{put}
-use Rattle.word.specs.Refusal.{Checked, fine, refusal}
 use Rattle.class.specs.declared.Info.{Info}
 use Rattle.class.specs.declared.Info.TheVariants.{Fixed}
 use Rattle.cell.specs.declared.Type.{«Type» as Ty}
@@ -44,10 +43,10 @@ block_scope ws k = S.Block (record { tables = ws; count = k })
 abbrev pub places_of : List ℕ → List TabRef → List ℕ
 places_of ss ts = map (λ t. get_or ss t.num 0) ts
 
--- THE ENTRY of a block's tables; zeros stand after them. Or 6 at the first TABLE record whose table is not in the catalogue: a place is held in 16 bits, and a view has fewer records
-unfoldable pub opened_by : List ℕ → Tabs → Checked Scope
-opened_by ss (all ts) = fine (block_scope (put (replicate 4 0) 0 (places_of ss ts)) (length ts))
-opened_by ss (missing p) = refusal 6 (min p 65535)
+-- THE ENTRY of a block's tables; zeros stand after them. Or the number of the first TABLE record whose table is not in the catalogue
+unfoldable pub opened_by : List ℕ → Tabs → Result Scope ℕ
+opened_by ss (all ts) = Ok (block_scope (put (replicate 4 0) 0 (places_of ss ts)) (length ts))
+opened_by ss (missing p) = Err p
 
 -- a block's tables; a local has none
 unfoldable pub tables_in : Open → List Table

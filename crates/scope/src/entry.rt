@@ -1,7 +1,6 @@
 // Entries of the table of open scopes: a local's, and a block's, whose tables are looked up by their names.
 // The definitions are in specs/: Entry says what an entry is, Blocks a block's tables.
 ghost use Rattle.std.specs.Prelude.{◌≡◌, ◌+◌, ◌*◌, ◌≤◌, ◌<◌, length, min, get_or, None, IfSome};
-ghost use Rattle.word.specs.Refusal.{said};
 ghost use Rattle.catalogue.specs.Tables.{tables_from, table_named};
 ghost use Rattle.catalogue.specs.Starts.{StartsAre, ref_of};
 ghost use Rattle.view.specs.Record.{node_at};
@@ -13,7 +12,6 @@ ghost use Rattle.class.specs.Class.{lub_all};
 ghost use Rattle.class.specs.declared.Info.TheVariants.{Fixed};
 
 use crate::{Block, Local, Scope};
-use word::{Reason, Refusal};
 
 /// A local: its name, its type, what is known of its class.
 #[tactic(auto, unfolding(crate::specs::Entry::local_scope))]
@@ -79,7 +77,7 @@ pub fn table_number(
 }
 
 // Stays: seven parameters are no plainer in a struct here, since crate catalogue's look-ups take `cat, n, starts, tables` one by one and each caller's struct of them holds more.
-/// The entry of a block whose TABLE records stand from record `at` on; or `NoTable` at the first of them whose table isn't in the catalogue.
+/// The entry of a block whose TABLE records stand from record `at` on; or the number of the first of them whose table isn't in the catalogue.
 pub fn open_block(
     cat: &[u8],
     n: usize,
@@ -88,20 +86,17 @@ pub fn open_block(
     view: &[u8],
     at: usize,
     count: usize,
-) -> Result<Scope, Refusal>
+) -> Result<Scope, usize>
     requires n_in_bounds { 8 + 8 * n ≤ length cat.now }
     requires starts_are { StartsAre cat.now n tables starts.now }
     requires count_in_bounds { 8 + 8 * (at + count) ≤ length view.now }
     requires count_bound { count ≤ 4 }
-    ensures { said result ≡ opened_by starts.now (tables_named (tables_from cat.now n n 0) (names_at view.now at count)) }
+    ensures { result ≡ opened_by starts.now (tables_named (tables_from cat.now n n 0) (names_at view.now at count)) }
 {
     let mut places = [0u16; 4];
     for j in 0..count {
         let Some(number) = table_number(cat, n, starts, tables, view, at + j) else {
-            return Err(Refusal {
-                reason: Reason::NoTable,
-                place: (at + j).min(65535) as u16,
-            });
+            return Err(at + j);
         };
         places[j] = starts[number];
     }

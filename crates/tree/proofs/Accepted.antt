@@ -34,10 +34,11 @@ use Rattle.resolve.specs.Expr.{Expr}
 use Rattle.resolve.specs.Expr as expr
 use Rattle.resolve.specs.Totals.{fold_type}
 use Rattle.resolve.specs.Resolve.{good, brought, resolve}
-use Rattle.resolve.specs.Claims.{Ready, block_node, Narrow, Tabled}
+use Rattle.resolve.specs.Claims.{or_no_table, Ready, block_node, Narrow, Tabled}
 use Rattle.resolve.specs.declared.Asked.{Asked}
 use Rattle.resolve.specs.declared.Asked.TheVariants as ask
 use Rattle.resolve.specs.declared.Files.{Files}
+use Rattle.resolve.proofs.Entries.{entry_made}
 use Rattle.resolve.proofs.Inversion.{ColGood, ClassGood, pick_same, const_good, bin_good, neg_good, if_good, exists_good, single_good, let_good, col_good, classof_good}
 use Rattle.resolve.proofs.Turns.{child}
 use Rattle.resolve.proofs.Narrow.{narrow_entry, narrow_push}
@@ -311,18 +312,18 @@ module _ (c ss v : List ℕ) (f : Files) (t : List Scope) (deep d at : ℕ) (w :
     block_some = (few asked refl).0
 
     -- its entry
-    pub block_entry : (o : Scope) × (fine o ≡ opened_by ss (tables_named (tables_from c f.nc f.nc 0) (names_at v (at + 1) count)))
-    block_entry = (_, sym (block_fine c f.nc f.tables ss v (at + 1) count _ _ block_tabled.found refl))
+    pub block_entry : (o : Scope) × (fine o ≡ or_no_table (opened_by ss (tables_named (tables_from c f.nc f.nc 0) (names_at v (at + 1) count))))
+    block_entry = (_, sym (ap or_no_table (block_fine c f.nc f.tables ss v (at + 1) count _ _ block_tabled.found refl)))
 
     -- o is its entry, u the table with its scope open
-    module _ (o : Scope) (p : fine o ≡ opened_by ss (tables_named (tables_from c f.nc f.nc 0) (names_at v (at + 1) count))) (u : List Scope) (q : u ≡ set t deep o) where
+    module _ (o : Scope) (p : fine o ≡ or_no_table (opened_by ss (tables_named (tables_from c f.nc f.nc 0) (names_at v (at + 1) count)))) (u : List Scope) (q : u ≡ set t deep o) where
       -- a part in the block's scope
       part : (ts : List TabRef) → tables_named (tables_from c f.nc f.nc 0) (names_at v (at + 1) count) ≡ all ts → (m : ℕ) {x : Exp} {k : ℕ} {y : Expr} {r : Ty}
           → parse_value v f.n (d - 1) m ≡ ok x k → resolve (tables_from c f.nc f.nc 0) (opened ts ∷ scopes_of c f.nc t deep) x ≡ good y r → Is c ss v f u (deep + 1) (d - 1) m y r
       unfolding refs_of
       part ts h m i j =
           let l : deep < 16 = omega (arith, w.ready.left, w.ready.not_many) in
-          let b = block_opened c f.nc f.tables ss v (at + 1) count o w.ready.lent.starts w.ready.lent.cat_few (few asked refl) p in
+          let b = block_opened c f.nc f.tables ss v (at + 1) count o w.ready.lent.starts w.ready.lent.cat_few (few asked refl) (entry_made _ o p) in
           inner m u o q (narrow_entry o b.untyped) _
           (block_scopes c f.nc t u deep o q l w.ready.sized _ b ∙ ap (λ (z : Tabs). opened (refs_of z) ∷ scopes_of c f.nc t deep) h) i j
 
@@ -331,7 +332,7 @@ module _ (c ss v : List ℕ) (f : Files) (t : List Scope) (deep d at : ℕ) (w :
       unfolding refs_at
       made ts h a =
           let l : deep < 16 = omega (arith, w.ready.left, w.ready.not_many) in
-          let b = block_opened c f.nc f.tables ss v (at + 1) count o w.ready.lent.starts w.ready.lent.cat_few (few asked refl) p in
+          let b = block_opened c f.nc f.tables ss v (at + 1) count o w.ready.lent.starts w.ready.lent.cat_few (few asked refl) (entry_made _ o p) in
           record {
             tabled = tabled_by ts h;
             some = (few asked refl).0;

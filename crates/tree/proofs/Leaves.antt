@@ -1,6 +1,6 @@
 -- The leaves of the writer: one law for each place of their code. Its premises are what the code has found there.
 -- Assumes nothing.
-use Rattle.std.specs.Prelude.{Option, Some, None, unwrap_or}
+use Rattle.std.specs.Prelude.{Option, Some, None, Err, unwrap_or}
 use Prim.Native.Nat.{ℕ, zero, suc, ◌+◌, ◌*◌, ◌<◌, ◌≤◌}
 use mathlib.Core.Path.{◌≡◌, refl, sym, ap, ap₂, ◌∙◌}
 use mathlib.Core.Bool.{Bool, true, false}
@@ -8,7 +8,6 @@ use mathlib.Core.List.{List, [], ◌∷◌, ◌++◌}
 use native.Mathlib.Omega.{arith}
 use native.Mathlib.Numerals.{add-one}
 use lib.ListN.{length, drop, drop_of_length-le}
-use Rattle.word.specs.Refusal.{refusal}
 use Rattle.word.specs.Record.{Record, rec_at, rec_bytes}
 use Rattle.word.specs.Writer.{Writes}
 use Rattle.word.specs.declared.writer.Writer.{Writer}
@@ -124,7 +123,7 @@ module _ (c : List ℕ) (n : ℕ) (ss : List ℕ) (tables : ℕ) (v : List ℕ) 
           rests_done (rests_as (ap (λ (ts : List TabRef). table_recs (nums ts)) (drop_of_length-le (refs_at c n v at count) z)) l)
 
     -- the entry of tables that are there is no refusal
-    pub opened_there : {k p : ℕ} → refusal k p ≡ opened_by ss (tables_named (tables_from c n n 0) (names_at v at count)) → ⊥
-    opened_there {k} {p} e =
-        let z = block_fine c n tables ss v at count _ (refusal k p) w.found e in
+    pub opened_there : {p : ℕ} → Err p ≡ opened_by ss (tables_named (tables_from c n n 0) (names_at v at count)) → ⊥
+    opened_there {p} e =
+        let z = block_fine c n tables ss v at count _ (Err p) w.found e in
         absurd (let y : ◌≡◌ {A = ℕ} 0 1 = cc in omega arith)

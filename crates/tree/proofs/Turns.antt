@@ -35,7 +35,7 @@ use Rattle.scope.specs.declared.Found.{Found}
 use Rattle.resolve.specs.Totals.{fold_type}
 use Rattle.resolve.specs.Infos.{block_i}
 use Rattle.resolve.specs.Steps.{refs_to}
-use Rattle.resolve.specs.Claims.{Opening, block_node, Narrow, Tabled}
+use Rattle.resolve.specs.Claims.{or_no_table, Opening, block_node, Narrow, Tabled}
 use Rattle.resolve.specs.declared.Asked.{Asked}
 use Rattle.resolve.specs.declared.Asked.TheVariants as ask
 use Rattle.resolve.specs.declared.Files.{Files}
@@ -215,7 +215,7 @@ module _ (c ss v : List ℕ) (f : Files) (t : List Scope) (deep d at : ℕ) (w :
 
   -- A BLOCK: p is its entry, u the table with its scope open, r₀ its record
   module _ {o : Writer} (r : Fits (encode (data_at c v f t deep d at)) o) (asked : Asked) (count : ℕ) (g : node_at v at ≡ block_node asked count)
-      (p : Scope) (i : fine p ≡ opened_by ss (tables_named (tables_from c f.nc f.nc 0) (names_at v (at + 1) count))) (u : List Scope) (j : u ≡ set t deep p)
+      (p : Scope) (i : fine p ≡ or_no_table (opened_by ss (tables_named (tables_from c f.nc f.nc 0) (names_at v (at + 1) count)))) (u : List Scope) (j : u ≡ set t deep p)
       {r₀ : Record} (n : r₀ ≡ block_rec asked count) {o₁ : Writer} (x₀ : Writes (rec_of r₀) o o₁) where
     x : Writes (rec_bytes (block_kind asked) (block_op asked) count 0 0) o o₁
     x = rw n at x₀

@@ -8,7 +8,7 @@ use Rattle.view.specs.Parse.{names_at}
 use Rattle.scope.specs.declared.Scope.{Scope}
 use Rattle.scope.specs.Blocks.{tables_named}
 use Rattle.scope.specs.Entry.{opened_by}
-use Rattle.resolve.specs.Claims.{tables_in, Tabled}
+use Rattle.resolve.specs.Claims.{or_no_table, tables_in, Tabled}
 use Rattle.resolve.specs.declared.Files.{Files}
 use Rattle.resolve.specs.declared.Source.{Source}
 use Rattle.tree.specs.Tree.{Tree}
@@ -50,7 +50,7 @@ TabledIn s at count = Tabled s.cat.now s.files.nc s.starts.now s.files.tables s.
 
 -- the entry of a block over them
 abbrev pub opened_in : Source → ℕ → ℕ → Checked Scope
-opened_in s at count = opened_by s.starts.now (tables_named (tables_in s) (names_at s.view.now at count))
+opened_in s at count = or_no_table (opened_by s.starts.now (tables_named (tables_in s) (names_at s.view.now at count)))
 
 -- a writer has room for these bytes
 pub record Fits (xs : List ℕ) (w : Writer) : Type 0 where

@@ -15,6 +15,9 @@ block-open_block-requires-clause-count_in_bounds t c = block_room _ _ _ _ _ _ _ 
 pub block-open_block-requires-clause-count_bound : goal.block-open_block-requires-clause-count_bound
 block-open_block-requires-clause-count_bound t c = block_few _ _ _ _ _ _ _ _ c.requires.ready _ _ c.requires.node
 
+pub block-open_block-requires-clause-place_bound : goal.block-open_block-requires-clause-place_bound
+block-open_block-requires-clause-place_bound t c = let h = block_next _ _ _ _ _ _ _ _ c.requires.ready _ _ c.requires.node in omega arith
+
 pub block-returns-in_err-own-clause-value : goal.block-returns-in_err-own-clause-value
 block-returns-in_err-own-clause-value t c = passed _ _ c.from_residual.ensures.1 ∙ block_6 _ _ _ _ _ _ _ _ c.requires.ready _ _ c.requires.node _ _ c.in_err-own.ensures
 

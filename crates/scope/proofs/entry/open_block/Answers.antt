@@ -8,7 +8,7 @@ pub loop-j-init : goal.loop-j-init
 loop-j-init c = search opens
 
 pub returns-in_default : goal.returns-in_default
-returns-in_default c = rw c.min.ensures (open_missing _ _ _ _ _ _ _ _ _ _ c.loop-j.invariant.1 (omega arith) _ c.table_number.ensures.found c.in_default.is)
+returns-in_default c = open_missing _ _ _ _ _ _ _ _ _ _ c.loop-j.invariant.1 (omega arith) _ c.table_number.ensures.found c.in_default.is
 
 pub loop-j-preserved : goal.loop-j-preserved
 loop-j-preserved c = (omega arith, open_again _ _ _ _ _ _ _ _ _ _ c.loop-j.invariant.1 (omega arith) _ c.table_number.ensures.found _ c.in-Some.is)
