@@ -11,6 +11,7 @@ mod totals;
 ghost use Rattle.std.specs.Prelude.{◌≡◌, ◌+◌, set};
 ghost use Rattle.word.specs.Refusal.{said};
 ghost use Rattle.view.specs.Record.{node_at};
+ghost use Rattle.view.specs.declared.Node.TheVariants as node;
 ghost use Rattle.resolve.specs.Notes.{NotedBy};
 ghost use Rattle.resolve.specs.Claims.{ReadyIn, tables_in, scopes_in, value_in, answer_in, block_node};
 
@@ -72,7 +73,7 @@ pub struct Sums {
 }
 
 /// A value: names and types, with depth levels left, in the scopes that are open, whose entries `held` has; and a note for each of its records.
-#[cycle(block_value_within)]
+#[cycle(bind_binop_block_branch_not_value_within)]
 pub fn value(
     source: &Source,
     at: usize,
@@ -86,35 +87,12 @@ pub fn value(
     ensures noted_by { NotedBy (tables_in source.now) (scopes_in source.now held.old deep) (value_in source.now depth at) at notes.old notes.new }
     ensures held_unchanged { held.new ≡ held.old }
 {
-    let next = at + 1;
-    let down = depth - 1;
     match view::sound_at(source.view, at) {
         view::Node::Const(ty, _) => {
             notes::note(notes, at, 0);
+            let next = at + 1;
             let info = class::Info::Fixed(source.files.k);
             Ok(Known::leaf(ty, info, next as u16))
-        }
-        view::Node::Binop(op) => {
-            let left = value(source, next, down, held, deep, notes)?;
-            let right = value(source, usize::from(left.next), down, held, deep, notes)?;
-            let known = left.binop(at as u16, op, right)?;
-            notes::note(notes, at, u64::from(known.ty.digits()));
-            Ok(known)
-        }
-        view::Node::Not => {
-            notes::note(notes, at, 0);
-            let operand = value(source, next, down, held, deep, notes)?;
-            operand.not(at as u16)
-        }
-        view::Node::If => {
-            notes::note(notes, at, 0);
-            let test = value(source, next, down, held, deep, notes)?;
-            let yes = value(source, usize::from(test.next), down, held, deep, notes)?;
-            let no = value(source, usize::from(yes.next), down, held, deep, notes)?;
-            let known = test.branch(at as u16, yes, no)?;
-            notes::mark(notes, usize::from(test.next), yes.ty, known.ty);
-            notes::mark(notes, usize::from(yes.next), no.ty, known.ty);
-            Ok(known)
         }
         view::Node::Col(name, table) => {
             let found = scope::find(held, source.cat, source.files.nc, deep, name, table);
@@ -126,14 +104,10 @@ pub fn value(
             notes::note(notes, at, notes::found_note(found));
             steps::class_of(at as u16, found)
         }
-        view::Node::Let(name) => {
-            let bound = value(source, next, down, held, deep, notes)?;
-            notes::note(notes, at, 0);
-            let own = scope::local_scope(name, bound.ty, bound.info);
-            let start = usize::from(bound.next);
-            let body = within(source, start, down, held, deep, own, notes)?;
-            Ok(bound.bind(body))
-        }
+        view::Node::Binop(op) => binop(source, at, depth, held, deep, op, notes),
+        view::Node::Not => not(source, at, depth, held, deep, notes),
+        view::Node::If => branch(source, at, depth, held, deep, notes),
+        view::Node::Let(name) => bind(source, at, depth, held, deep, name, notes),
         view::Node::Exists(count, fold) => {
             let count = usize::from(count);
             block(
@@ -171,8 +145,113 @@ pub fn value(
     }
 }
 
+// BINOP, NOT, IF and LET have functions of their own: a column or a constant, of which a view has most, then makes no room for the answers of parts, which is faster.
+
+/// BINOP: its left operand, then its right one, and its note after theirs.
+#[inline(never)]
+#[cycle(bind_binop_block_branch_not_value_within)]
+fn binop(
+    source: &Source,
+    at: usize,
+    depth: usize,
+    held: &mut [scope::Scope; 16],
+    deep: usize,
+    op: u8,
+    notes: &mut [u64; 1024],
+) -> Result<Known, Refusal>
+    requires ready { ReadyIn source.now held.old deep depth at }
+    requires node { node_at source.now.view.now at ≡ node.Binop op }
+    ensures value { said result ≡ answer_in source.now held.old deep depth at }
+    ensures noted_by { NotedBy (tables_in source.now) (scopes_in source.now held.old deep) (value_in source.now depth at) at notes.old notes.new }
+    ensures held_unchanged { held.new ≡ held.old }
+{
+    let down = depth - 1;
+    let left = value(source, at + 1, down, held, deep, notes)?;
+    let right = value(source, usize::from(left.next), down, held, deep, notes)?;
+    let known = left.binop(at as u16, op, right)?;
+    notes::note(notes, at, u64::from(known.ty.digits()));
+    Ok(known)
+}
+
+/// NOT: its note, and its operand.
+#[inline(never)]
+#[cycle(bind_binop_block_branch_not_value_within)]
+fn not(
+    source: &Source,
+    at: usize,
+    depth: usize,
+    held: &mut [scope::Scope; 16],
+    deep: usize,
+    notes: &mut [u64; 1024],
+) -> Result<Known, Refusal>
+    requires ready { ReadyIn source.now held.old deep depth at }
+    requires node { node_at source.now.view.now at ≡ node.Not }
+    ensures value { said result ≡ answer_in source.now held.old deep depth at }
+    ensures noted_by { NotedBy (tables_in source.now) (scopes_in source.now held.old deep) (value_in source.now depth at) at notes.old notes.new }
+    ensures held_unchanged { held.new ≡ held.old }
+{
+    notes::note(notes, at, 0);
+    let operand = value(source, at + 1, depth - 1, held, deep, notes)?;
+    operand.not(at as u16)
+}
+
+/// IF: its condition, then its limbs, whose notes say what each of them is brought to.
+#[inline(never)]
+#[cycle(bind_binop_block_branch_not_value_within)]
+fn branch(
+    source: &Source,
+    at: usize,
+    depth: usize,
+    held: &mut [scope::Scope; 16],
+    deep: usize,
+    notes: &mut [u64; 1024],
+) -> Result<Known, Refusal>
+    requires ready { ReadyIn source.now held.old deep depth at }
+    requires node { node_at source.now.view.now at ≡ node.If }
+    ensures value { said result ≡ answer_in source.now held.old deep depth at }
+    ensures noted_by { NotedBy (tables_in source.now) (scopes_in source.now held.old deep) (value_in source.now depth at) at notes.old notes.new }
+    ensures held_unchanged { held.new ≡ held.old }
+{
+    notes::note(notes, at, 0);
+    let down = depth - 1;
+    let test = value(source, at + 1, down, held, deep, notes)?;
+    let yes = value(source, usize::from(test.next), down, held, deep, notes)?;
+    let no = value(source, usize::from(yes.next), down, held, deep, notes)?;
+    let known = test.branch(at as u16, yes, no)?;
+    notes::mark(notes, usize::from(test.next), yes.ty, known.ty);
+    notes::mark(notes, usize::from(yes.next), no.ty, known.ty);
+    Ok(known)
+}
+
+/// LET: its value, then its body, under one more scope: the local's.
+#[inline(never)]
+#[cycle(bind_binop_block_branch_not_value_within)]
+fn bind(
+    source: &Source,
+    at: usize,
+    depth: usize,
+    held: &mut [scope::Scope; 16],
+    deep: usize,
+    name: u16,
+    notes: &mut [u64; 1024],
+) -> Result<Known, Refusal>
+    requires ready { ReadyIn source.now held.old deep depth at }
+    requires node { node_at source.now.view.now at ≡ node.Let name }
+    ensures value { said result ≡ answer_in source.now held.old deep depth at }
+    ensures noted_by { NotedBy (tables_in source.now) (scopes_in source.now held.old deep) (value_in source.now depth at) at notes.old notes.new }
+    ensures held_unchanged { held.new ≡ held.old }
+{
+    let down = depth - 1;
+    let bound = value(source, at + 1, down, held, deep, notes)?;
+    notes::note(notes, at, 0);
+    let own = scope::local_scope(name, bound.ty, bound.info);
+    let start = usize::from(bound.next);
+    let body = within(source, start, down, held, deep, own, notes)?;
+    Ok(bound.bind(body))
+}
+
 /// A value under one more scope, which is closed again whatever the answer.
-#[cycle(block_value_within)]
+#[cycle(bind_binop_block_branch_not_value_within)]
 fn within(
     source: &Source,
     at: usize,
@@ -195,7 +274,8 @@ fn within(
 }
 
 /// A block of whose rows or values something is asked: its tables are one scope, under which its where and its value stand.
-#[cycle(block_value_within)]
+#[inline(never)]
+#[cycle(bind_binop_block_branch_not_value_within)]
 fn block(
     source: &Source,
     at: usize,
