@@ -73,6 +73,7 @@ pub struct Sums {
 }
 
 /// A value: names and types, with depth levels left, in the scopes that are open, whose entries `held` has; and a note for each of its records.
+#[inline(always)]
 #[cycle(bind_binop_block_branch_not_value_within)]
 pub fn value(
     source: &Source,
@@ -145,7 +146,7 @@ pub fn value(
     }
 }
 
-// BINOP, NOT, IF and LET have functions of their own: a column or a constant, of which a view has most, then makes no room for the answers of parts, which is faster.
+// BINOP, NOT, IF and LET have functions of their own, and `value`, which chooses among them, is inlined where a part is read: a part's answer is then copied once, which is faster.
 
 /// BINOP: its left operand, then its right one, and its note after theirs.
 #[inline(never)]
