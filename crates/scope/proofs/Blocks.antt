@@ -2,7 +2,7 @@
 -- Assumes nothing.
 use Prim.Native.Nat.{ℕ, zero, suc, ◌+◌, ◌-◌, ◌<◌, ◌≤◌, min}
 use mathlib.Core.Path.{◌≡◌, refl, sym, ap, ◌∙◌}
-use mathlib.Core.List.{List, map}
+use mathlib.Core.List.{List, [], ◌∷◌, map}
 use native.Mathlib.Omega.{arith}
 use borrow.Author.Rules.{rules}
 use lib.ListN.{get_or, length, drop, drop_of_length-le}
@@ -12,8 +12,9 @@ use Rattle.class.specs.Class.{lub_of, lub_all}
 use Rattle.class.specs.Info.{info_by}
 use Rattle.class.specs.declared.Info.{Info}
 use Rattle.class.specs.declared.Info.TheVariants.{Fixed}
-use Rattle.catalogue.specs.Tables.{Table, table_at}
+use Rattle.catalogue.specs.Tables.{Table, TabRef, table_at}
 use Rattle.scope.specs.Table.{tabs_at, open_of}
+use Rattle.scope.specs.Blocks.{opened}
 use Rattle.scope.specs.Entry.{count_in, table_in, tables_in, rows_of, classes_of}
 use Rattle.scope.specs.declared.Scope.{Scope}
 use Rattle.scope.specs.declared.Scope.TheVariants as S
@@ -46,7 +47,7 @@ module _ (c : List ℕ) (n : ℕ) (s : Scope) where
   tables_in_lem = go s
     where
       go : (s : Scope) → tables_in (open_of c n s) ≡ tabs_at c n s 0 (min (count_in s) 4)
-      go (S.Block b) = refl
+      go (S.Block b) = let e : min (min b.count 15) 4 ≡ min b.count 4 = omega arith in rw e
       go (S.Local l) = refl
 
   -- table j of an entry that has it
@@ -90,3 +91,17 @@ module _ (c : List ℕ) (n : ℕ) (s : Scope) where
     lub_done h = let e : j ≡ 0 = omega arith in x ∙ rw e
 
 pub ruleset blocks = (lub_begin, lub_again, lub_done, rules)
+
+-- the same of the tables that a block opens
+module _ (c : List ℕ) (n : ℕ) (s : Scope) (ts : List TabRef) (e : open_of c n s ≡ opened ts) where
+  fields : {A : Type 0} (f : Table → A) (us : List TabRef) → map f (map (λ t. t.table) us) ≡ map (λ t. f t.table) us
+  fields f [] = refl
+  fields f (u ∷ us) = ap (λ l. f u.table ∷ l) (fields f us)
+
+  pub rows_opened : rows_of (tables_in (open_of c n s)) ≡ map (λ t. t.table.row) ts
+  unfolding tables_in
+  rows_opened = rw e (fields (λ t. t.row) ts)
+
+  pub classes_opened : classes_of (tables_in (open_of c n s)) ≡ map (λ t. t.table.tclass) ts
+  unfolding tables_in
+  classes_opened = rw e (fields (λ t. t.tclass) ts)

@@ -1,17 +1,17 @@
 -- What the only match of a list of matches is, put together from parts.
 -- Assumes nothing.
 use Prim.Native.Nat.{ℕ, ◌+◌}
-use mathlib.Core.Path.{◌≡◌, refl, sym, ◌∙◌}
+use mathlib.Core.Path.{◌≡◌, refl, sym, subst, ◌∙◌}
 use mathlib.Core.Bool.{Bool, true, false, cond, ◌&&◌, ◌||◌}
 use mathlib.Core.List.{List, [], ◌∷◌, ◌++◌}
-use lib.Dec.{eqb}
+use lib.Dec.{T as Holds, eqb}
 use lib.ListN.{get_or}
 use Rattle.class.specs.declared.Info.{Info}
 use Rattle.class.specs.declared.Info.TheVariants.{Fixed}
 use Rattle.catalogue.specs.Tables.{Table, Column}
 use Rattle.scope.specs.Scopes.{Open, block, local, Hit, column, bound, Only, none, one, more, only_of, in_cols, in_table, in_tabs, in_scope}
 use Rattle.scope.specs.Table.{found_of}
-use Rattle.scope.specs.Match.{found_in}
+use Rattle.scope.specs.Match.{found_in, any_of}
 
 -- THE ONLY MATCH of two lists: of neither, of one alone, of both
 unfoldable pub both : Only Hit → Only Hit → Only Hit
@@ -28,6 +28,25 @@ only_both (x ∷ []) [] = refl
 only_both (x ∷ []) (y ∷ []) = refl
 only_both (x ∷ []) (y ∷ (z ∷ zs)) = refl
 only_both (x ∷ (y ∷ xs)) ys = refl
+
+-- a match with what is left: there is one, and it is the only one if nothing is left
+pub any_both : (h : Hit) (y : Only Hit) → any_of (both (one h) y) ≡ true
+unfolding any_of both
+any_both h none = refl
+any_both h (one k) = refl
+any_both h more = refl
+
+pub both_alone : (h : Hit) (y : Only Hit) → any_of y ≡ false → both (one h) y ≡ one h
+unfolding any_of both
+both_alone h none e = refl
+both_alone h (one k) e = absurd (subst Holds e tt)
+both_alone h more e = absurd (subst Holds e tt)
+
+pub both_two : (h : Hit) (y : Only Hit) → any_of y ≡ true → both (one h) y ≡ more
+unfolding any_of both
+both_two h none e = absurd (subst Holds (sym e) tt)
+both_two h (one k) e = refl
+both_two h more e = refl
 
 -- the answer from all scopes' classes is that from the class of the scope where the matches stand
 module _ (is : List Info) (name q a : ℕ) where

@@ -25,6 +25,7 @@ use Rattle.scope.specs.Table.{tabs_at, open_of}
 use Rattle.scope.specs.Blocks.{Tabs, all, missing, before, found_at, tables_named, refs_of, opened}
 use Rattle.scope.specs.Entry.{count_in, table_in, type_in, info_in, block_scope, places_of, opened_by, Among}
 use Rattle.scope.specs.declared.Scope.{Scope}
+use Rattle.scope.specs.declared.Scope.TheVariants as S
 
 -- a table that was looked up: its number is one of the catalogue's, and it is the table of that number's record
 pub record RefIs (c : List ℕ) (n tables : ℕ) (ss : List ℕ) (t : TabRef) : Type 0 where
@@ -42,6 +43,12 @@ zeros : (k j : ℕ) → ◌≡◌ {A = ℕ} (get_or (replicate k 0) j 0) 0
 zeros zero j = refl
 zeros (suc k) zero = refl
 zeros (suc k) (suc j) = zeros k j
+
+-- the entry of one table or more is a block's
+pub block_entry : (ws : List ℕ) (k : ℕ) → 1 ≤ k → block_scope ws k ≡ S.Block (record { tables = ws; count = k })
+unfolding block_scope
+block_entry ws zero h = absurd (omega arith)
+block_entry ws (suc k) h = refl
 
 module _ (c : List ℕ) (n tables : ℕ) (ss : List ℕ) (a : StartsAre c n tables ss) where
   named_in_lem : (name j : ℕ) (is : List ℕ) (t : TabRef) → named_in c n name j is ≡ done t → (j ≤ t.num) × (t.num < j + length is) × (t.table ≡ table_at c n (get_or is (t.num - j) 0))
@@ -91,18 +98,18 @@ module _ (c : List ℕ) (n tables : ℕ) (ss : List ℕ) (a : StartsAre c n tabl
 
   module _ (ts : List TabRef) (r : Refs ts) (some : 1 ≤ length ts) (few : length ts ≤ 4) (l : n ≤ 2080) where
     abbrev entry : Scope
-    entry = block_scope (put (replicate 4 0) 0 (places_of ss ts)) (length ts)
+    entry = S.Block (record { tables = put (replicate 4 0) 0 (places_of ss ts); count = length ts })
 
     put_here : (j : ℕ) → j < length ts → table_in entry (0 + j) ≡ get_or (places_of ss ts) j 0
-    unfolding table_in block_scope
+    unfolding table_in
     put_here j h = put_at (replicate 4 0) 0 (places_of ss ts) j (simp length-map (omega arith)) (simp length-map h)
 
     entry_opens : open_of c n entry ≡ opened ts
-    unfolding open_of block_scope
+    unfolding open_of
     entry_opens = let e : min (length ts) 4 ≡ length ts = omega arith in rw (e, tabs_are entry 0 ts r put_here)
 
     entry_below : (j : ℕ) → Dec (j < length ts) → table_in entry j < n
-    unfolding table_in block_scope
+    unfolding table_in
     entry_below j (yes h) = let z : 0 + j ≡ j = omega arith in rw (rw z at (put_here j h)) (places_below ts r j h)
     entry_below j (no h) =
         let e : get_or (put (replicate 4 0) 0 (places_of ss ts)) j 0 ≡ 0 = put_after (replicate 4 0) 0 (places_of ss ts) j (simp length-map (omega arith)) ∙ zeros 4 j in
@@ -145,21 +152,26 @@ missing_first cat v at (suc count) p e = go (table_named (name_of (node_at v at)
     go (done t) (all ts) h k = absurd (let z : ◌≡◌ {A = ℕ} 0 1 = cc in omega arith)
     go (done t) (missing q) h k = let l = h k in omega arith
 
+-- where no entry is made of tables, the record said is that of the first that is missing
+pub tabs_missing : (ss : List ℕ) (T : Tabs) (p : ℕ) → Err p ≡ opened_by ss T → T ≡ missing p
+tabs_missing ss (all ts) p e = absurd (unfold opened_by in let z : ◌≡◌ {A = ℕ} 0 1 = cc in omega arith)
+tabs_missing ss (missing q) p e = let z : q ≡ p = unfold opened_by in cc in ap missing z
+
 module _ (c : List ℕ) (n tables : ℕ) (ss : List ℕ) (v : List ℕ) (at count : ℕ) where
   entry_says : (ts : List TabRef) → StartsAre c n tables ss → n ≤ 2080 → (1 ≤ count) × (count ≤ 4) → tables_named (tables_from c n n 0) (names_at v at count) ≡ all ts
       → BlockOpened c n (all ts) (block_scope (put (replicate 4 0) 0 (places_of ss ts)) (length ts))
-  unfolding refs_of type_in info_in count_in block_scope
+  unfolding refs_of type_in info_in count_in
   entry_says ts a b l x =
       let r = refs_are c n tables ss a (names_at v at count) ts x in
       let k = names_length (tables_from c n n 0) v at count ts x in
-      record {
+      rw (block_entry (put (replicate 4 0) 0 (places_of ss ts)) (length ts) (omega arith)) (record {
         found = refl;
         opens = entry_opens c n tables ss a ts r (omega arith) (omega arith) b;
         untyped = refl;
         known = refl;
         among = entry_among c n tables ss a ts r (omega arith) (omega arith) b;
-        counted = refl;
-      }
+        counted = omega arith;
+      })
 
   pub block_opened : (s : Scope) → StartsAre c n tables ss → n ≤ 2080 → (1 ≤ count) × (count ≤ 4) → Ok s ≡ opened_by ss (tables_named (tables_from c n n 0) (names_at v at count))
       → BlockOpened c n (tables_named (tables_from c n n 0) (names_at v at count)) s

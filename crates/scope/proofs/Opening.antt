@@ -2,26 +2,34 @@
 -- Assumes nothing.
 use Rattle.std.specs.Prelude.{Option, Some, None, Result, Ok, Err}
 use Prim.Native.Nat.{ℕ, suc, ◌+◌, ◌-◌, ◌<◌, ◌≤◌}
-use mathlib.Core.Path.{◌≡◌, refl, sym, ◌∙◌}
+use mathlib.Core.Path.{◌≡◌, refl, sym, ap, ◌∙◌}
 use mathlib.Core.List.{List, [], ◌∷◌}
 use native.Mathlib.Omega.{arith}
 use native.Mathlib.Numerals.{add-one}
 use borrow.Author.Rules.{rules}
 use lib.ListN.{get_or, length, set}
 use Rattle.word.specs.Buffer.{put}
-use Rattle.catalogue.specs.Tables.{TabRef, table_at, tables_from, table_named}
+use Rattle.class.specs.declared.Info.TheVariants.{Fixed}
+use Rattle.cell.specs.declared.Type.TheVariants.{Null}
+use Rattle.catalogue.specs.Tables.{Table, TabRef, table_at, tables_from, table_named}
 use Rattle.catalogue.specs.Starts.{ref_of}
 use Rattle.view.specs.Record.{node_at}
 use Rattle.view.specs.Parse.{name_of, names_at}
 use Rattle.scope.specs.Blocks.{Tabs, all, missing, before, found_at, tables_named}
-use Rattle.scope.specs.Entry.{block_scope, places_of, opened_by}
+use Rattle.scope.specs.Entry.{local_scope, block_scope, places_of, opened_by}
 use Rattle.scope.specs.declared.Scope.{Scope}
 use Rattle.scope.specs.declared.Scope.TheVariants as S
+use Rattle.scope.proofs.Named.{block_entry}
 
 -- a block of which j tables are looked up, their records in ws; what is left of its tables
 unfoldable pub open_from : List ℕ → List ℕ → ℕ → Tabs → Result Scope ℕ
 open_from ss ws j (all ts) = Ok (block_scope (put ws j (places_of ss ts)) (j + length ts))
 open_from ss ws j (missing p) = Err p
+
+-- a block of no tables
+pub open_none : (cat : List Table) (ss v : List ℕ) (at count : ℕ) (s : Scope) → count ≡ 0 → s ≡ local_scope 0 Null (Fixed 0) → Ok s ≡ opened_by ss (tables_named cat (names_at v at count))
+unfolding opened_by names_at tables_named put block_scope
+open_none cat ss v at count s e x = rw (e, x)
 
 module _ (c : List ℕ) (n : ℕ) (ss : List ℕ) (tables : ℕ) (v : List ℕ) (at count : ℕ) where
   unfoldable pub tabs_left : ℕ → Tabs
@@ -56,8 +64,8 @@ module _ (c : List ℕ) (n : ℕ) (ss : List ℕ) (tables : ℕ) (v : List ℕ) 
     unfolding found_at ref_of
     open_again k e = x ∙ rw (tabs_next j h, g, e) (one_more ws j (record { num = k; table = table_at c n (get_or ss k 0) }) (tabs_left (j + 1)))
 
-  pub open_done : (ws : List ℕ) (j : ℕ) (X : Result Scope ℕ) → X ≡ open_from ss ws j (tabs_left j) → count ≤ j → j ≤ count → Ok (S.Block (record { tables = ws; count = count })) ≡ X
-  unfolding open_from tabs_left names_at tables_named put block_scope
-  open_done ws j X x h l = let e : count - j ≡ 0 = omega arith in let f : j + 0 ≡ count = omega arith in sym (x ∙ rw (e, f))
+  pub open_done : (ws : List ℕ) (j : ℕ) (X : Result Scope ℕ) → (count ≡ 0 → ⊥) → X ≡ open_from ss ws j (tabs_left j) → count ≤ j → j ≤ count → Ok (S.Block (record { tables = ws; count = count })) ≡ X
+  unfolding open_from tabs_left names_at tables_named put
+  open_done ws j X m x h l = let e : count - j ≡ 0 = omega arith in let f : j + 0 ≡ count = omega arith in sym (x ∙ rw (e, f) (ap Ok (block_entry ws count (omega arith))))
 
 pub ruleset opens = (open_begin, open_missing, open_again, open_done, rules)

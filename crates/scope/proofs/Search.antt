@@ -2,6 +2,7 @@
 -- Assumes nothing.
 use Prim.Native.Nat.{ℕ, zero, suc, ◌+◌, ◌-◌, ◌<◌, ◌≤◌, min}
 use mathlib.Core.Path.{◌≡◌, refl, sym, ap, ◌∙◌}
+use mathlib.Core.Bool.{Bool, true, false}
 use mathlib.Core.List.{List, [], ◌∷◌, ◌++◌}
 use native.Mathlib.Omega.{arith}
 use borrow.Author.Rules.{rules}
@@ -11,11 +12,11 @@ use Rattle.word.specs.Record.{op_at, b_at}
 use Rattle.class.specs.Info.{info_by}
 use Rattle.class.specs.declared.Info.{Info}
 use Rattle.class.specs.declared.Info.TheVariants.{Fixed}
-use Rattle.catalogue.specs.Tables.{Table, Column, column_at, table_at}
+use Rattle.catalogue.specs.Tables.{column_at, table_at}
 use Rattle.scope.specs.Scopes.{Hit, column, bound, Only, none, one, more, only_of, in_table, in_tabs, in_scope, nearest, find}
 use Rattle.scope.specs.Entry.{table_in, info_in}
 use Rattle.scope.specs.Table.{tabs_at, open_of, blank, scopes_of, infos_of, found_of}
-use Rattle.scope.specs.Match.{found_in, only_by, MatchIs}
+use Rattle.scope.specs.Match.{found_in, any_of, only_by, MatchIs, AnyIs}
 use Rattle.scope.specs.declared.Block.{Block}
 use Rattle.scope.specs.declared.Local.{Local}
 use Rattle.scope.specs.declared.Scope.{Scope}
@@ -24,7 +25,7 @@ use Rattle.scope.specs.declared.Found.{Found}
 use Rattle.scope.specs.declared.Found.TheVariants as F
 use Rattle.scope.specs.declared.names.Matches.{Matches}
 use Rattle.scope.specs.declared.names.Matches.TheVariants as N
-use Rattle.scope.proofs.Hits.{both, only_both, same_scope}
+use Rattle.scope.proofs.Hits.{both, only_both, any_both, both_alone, both_two, same_scope}
 
 -- the record of a block's table
 pub table_is : (b : Block) (j t : ℕ) → t ≡ get_or b.tables j 0 → t ≡ table_in (S.Block b) j
@@ -53,82 +54,65 @@ module _ (c : List ℕ) (n : ℕ) (s : Scope) (count name q : ℕ) where
   unfolding tabs_left in_tabs tabs_at only_of
   left_none a j h = let k : count - j ≡ 0 = omega arith in rw k
 
--- a match found so far, with what is left
-unfoldable pub one_more : Found → Only Hit → Found
-one_more x none = x
-one_more x (one h) = F.Ambiguous
-one_more x more = F.Ambiguous
+-- no table from number i up to number j has the name
+pub record Passed (c : List ℕ) (n : ℕ) (s : Scope) (count name q i j : ℕ) : Type 0 where
+  pub same : (a : ℕ) → tabs_left c n s count name q a i ≡ tabs_left c n s count name q a j
 
-unfoldable pub joined : Found → Only Hit → Found
-joined F.None r = found_in (Fixed 0) r
-joined (F.Column a b c t i w) r = one_more (F.Column a b c t i w) r
-joined (F.Local a t i) r = one_more (F.Local a t i) r
-joined F.Ambiguous r = F.Ambiguous
+module _ (c : List ℕ) (n : ℕ) (s : Scope) (count name q : ℕ) where
+  pub tabs_begin : (i : ℕ) → Passed c n s count name q i i
+  tabs_begin i = record { same = λ a. refl }
 
-joined_last : (x : Found) → joined x none ≡ x
-unfolding joined one_more found_in
-joined_last F.None = refl
-joined_last (F.Column a b c t i w) = refl
-joined_last (F.Local a t i) = refl
-joined_last F.Ambiguous = refl
-
-joined_first : (a b c : ℕ) (t : Table) (k : Column) (y : Only Hit) → joined F.None (both (one (column a b c t k)) y) ≡ joined (F.Column a b c k.ty k.info t.row) y
-unfolding joined one_more found_in both
-joined_first a b c t k none = refl
-joined_first a b c t k (one h) = refl
-joined_first a b c t k more = refl
-
-joined_two : (x : Found) (h : Hit) (y : Only Hit) → (x ≡ F.None → ⊥) → joined x (both (one h) y) ≡ F.Ambiguous
-unfolding joined one_more both
-joined_two F.None h y f = absurd (f refl)
-joined_two (F.Column a b c t i w) h none f = refl
-joined_two (F.Column a b c t i w) h (one k) f = refl
-joined_two (F.Column a b c t i w) h more f = refl
-joined_two (F.Local a t i) h none f = refl
-joined_two (F.Local a t i) h (one k) f = refl
-joined_two (F.Local a t i) h more f = refl
-joined_two F.Ambiguous h y f = refl
-
-joined_more : (x : Found) (y : Only Hit) → joined x (both more y) ≡ F.Ambiguous
-unfolding joined one_more found_in both
-joined_more F.None y = refl
-joined_more (F.Column a b c t i w) y = refl
-joined_more (F.Local a t i) y = refl
-joined_more F.Ambiguous y = refl
-
--- of a block's tables up to number j the answer is x
-pub record Passed (c : List ℕ) (n : ℕ) (s : Scope) (count name q a : ℕ) (x : Found) (j : ℕ) : Type 0 where
-  pub whole : found_in (Fixed 0) (only_of (in_tabs name q a 0 (tabs_at c n s 0 count))) ≡ joined x (tabs_left c n s count name q a j)
-
-module _ (c : List ℕ) (n : ℕ) (s : Scope) (count name q a : ℕ) where
-  pub tabs_begin : Passed c n s count name q a F.None 0
-  unfolding joined
-  tabs_begin = record { whole = ap (found_in (Fixed 0)) (tabs_all c n s count name q a) }
-
-  module _ (x : Found) (j : ℕ) (p : Passed c n s count name q a x j) where
-    pub tabs_done : count ≤ j → x ≡ found_in (Fixed 0) (only_of (in_tabs name q a 0 (tabs_at c n s 0 count)))
-    tabs_done h = sym (p.whole ∙ ap (joined x) (left_none c n s count name q a j h) ∙ joined_last x)
+  module _ (i j : ℕ) (p : Passed c n s count name q i j) where
+    pub any_no : count ≤ j → AnyIs c n s count name q i false
+    unfolding tabs_left any_of
+    any_no h = record { says = λ a. sym (ap any_of (p.same a ∙ left_none c n s count name q a j h)) }
 
     module _ (t : ℕ) (r : Matches) (h : j < count) (f : t ≡ table_in s j) (m : MatchIs c n t name q r) where
-      next : (z : Matches) → r ≡ z → found_in (Fixed 0) (only_of (in_tabs name q a 0 (tabs_at c n s 0 count))) ≡ joined x (both (only_by c n t a j z) (tabs_left c n s count name q a (j + 1)))
+      next : (z : Matches) → r ≡ z → (a : ℕ) → tabs_left c n s count name q a i ≡ both (only_by c n t a j z) (tabs_left c n s count name q a (j + 1))
       unfolding tabs_left
-      next z e = p.whole ∙ ap (joined x) (left_next c n s count name q a j t h f ∙ only_both (in_table name q a j (table_at c n t)) (in_tabs name q a (j + 1) (tabs_at c n s (j + 1) (count - (j + 1)))) ∙ rw (m.says a j, e))
+      next z e a = p.same a ∙ left_next c n s count name q a j t h f ∙ only_both (in_table name q a j (table_at c n t)) (in_tabs name q a (j + 1) (tabs_at c n s (j + 1) (count - (j + 1)))) ∙ rw (m.says a j, e)
 
-      pub tabs_none : r ≡ N.None → Passed c n s count name q a x (j + 1)
+      pub tabs_again : r ≡ N.None → Passed c n s count name q i (j + 1)
       unfolding only_by both
-      tabs_none e = record { whole = next N.None e }
+      tabs_again e = record { same = next N.None e }
 
-      pub tabs_one : (i : ℕ) (u : Found) → r ≡ N.One i → x ≡ F.None → u ≡ F.Column a j (i - (t + 1)) (column_at c i).ty (column_at c i).info (info_by (op_at c t) (b_at c t)) → Passed c n s count name q a u (j + 1)
-      unfolding only_by table_at
-      tabs_one i u e g d = record { whole = next (N.One i) e ∙ rw (g, d) (joined_first a j (i - (t + 1)) (table_at c n t) (column_at c i) _) }
+      any_next : (z : Matches) → r ≡ z → (r ≡ N.None → ⊥) → (a : ℕ) → any_of (tabs_left c n s count name q a i) ≡ true
+      unfolding only_by both any_of
+      any_next N.None e g a = absurd (g e)
+      any_next (N.One k) e g a = ap any_of (next (N.One k) e a) ∙ any_both _ _
+      any_next N.Several e g a = ap any_of (next N.Several e a)
 
-      pub tabs_two : (i : ℕ) → r ≡ N.One i → (x ≡ F.None → ⊥) → F.Ambiguous ≡ found_in (Fixed 0) (only_of (in_tabs name q a 0 (tabs_at c n s 0 count)))
-      unfolding only_by
-      tabs_two i e g = sym (next (N.One i) e ∙ joined_two x _ _ g)
+      pub any_yes : (r ≡ N.None → ⊥) → AnyIs c n s count name q i true
+      unfolding tabs_left
+      any_yes g = record { says = λ a. sym (any_next r refl g a) }
 
-      pub tabs_more : r ≡ N.Several → F.Ambiguous ≡ found_in (Fixed 0) (only_of (in_tabs name q a 0 (tabs_at c n s 0 count)))
-      unfolding only_by
-      tabs_more e = sym (next N.Several e ∙ joined_more x _)
+  -- what in_block answers, where no table up to number j has the name
+  module _ (j a : ℕ) (p : Passed c n s count name q 0 j) where
+    pub block_none : count ≤ j → F.None ≡ found_in (Fixed 0) (only_of (in_tabs name q a 0 (tabs_at c n s 0 count)))
+    unfolding found_in
+    block_none h = sym (ap (found_in (Fixed 0)) (tabs_all c n s count name q a ∙ p.same a ∙ left_none c n s count name q a j h))
+
+    module _ (t : ℕ) (r : Matches) (h : j < count) (f : t ≡ table_in s j) (m : MatchIs c n t name q r) where
+      pub block_several : r ≡ N.Several → F.Ambiguous ≡ found_in (Fixed 0) (only_of (in_tabs name q a 0 (tabs_at c n s 0 count)))
+      unfolding only_by both found_in
+      block_several e = sym (ap (found_in (Fixed 0)) (tabs_all c n s count name q a ∙ next 0 j p t r h f m N.Several e a))
+
+      module _ (i : ℕ) (e : r ≡ N.One i) (x : Bool) (y : AnyIs c n s count name q (j + 1) x) where
+        whole : only_of (in_tabs name q a 0 (tabs_at c n s 0 count)) ≡ both (one (column a j (i - (t + 1)) (table_at c n t) (column_at c i))) (tabs_left c n s count name q a (j + 1))
+        unfolding only_by
+        whole = tabs_all c n s count name q a ∙ next 0 j p t r h f m (N.One i) e a
+
+        any_left : any_of (tabs_left c n s count name q a (j + 1)) ≡ x
+        unfolding tabs_left
+        any_left = sym (y.says a)
+
+        pub block_two : x ≡ true → F.Ambiguous ≡ found_in (Fixed 0) (only_of (in_tabs name q a 0 (tabs_at c n s 0 count)))
+        unfolding found_in
+        block_two g = sym (ap (found_in (Fixed 0)) (whole ∙ both_two _ _ (any_left ∙ g)))
+
+        pub block_one : (u : Found) → x ≡ false → u ≡ F.Column a j (i - (t + 1)) (column_at c i).ty (column_at c i).info (info_by (op_at c t) (b_at c t)) → u ≡ found_in (Fixed 0) (only_of (in_tabs name q a 0 (tabs_at c n s 0 count)))
+        unfolding found_in table_at
+        block_one u g d = d ∙ sym (ap (found_in (Fixed 0)) (whole ∙ both_alone _ _ (any_left ∙ g)))
 
 -- one entry, a local's
 module _ (c : List ℕ) (n : ℕ) (l : Local) (name q a : ℕ) where
@@ -149,7 +133,7 @@ pub block_whole : (c : List ℕ) (n : ℕ) (b : Block) (name q a : ℕ) (r : Fou
 unfolding open_of info_in in_scope
 block_whole c n b name q a r e = e
 
-pub ruleset entries = (tabs_begin, tabs_none, tabs_one, tabs_two, tabs_more, tabs_done, rules)
+pub ruleset entries = (tabs_begin, any_no, block_none, rules)
 
 -- from the innermost outward
 near_some : (is : List Info) (x y : Only Hit) → (found_of is x ≡ F.None → ⊥) → found_of is (nearest x y) ≡ found_of is x

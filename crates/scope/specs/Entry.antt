@@ -1,6 +1,6 @@
 -- Entries of the table of open scopes: what one says, how a local's and a block's are made, and what is asked of a block's tables.
 -- Assumes nothing.
-use Rattle.std.specs.Prelude.{ℕ, ◌<◌, List, [], map, get_or, length, replicate, Result, Ok, Err}
+use Rattle.std.specs.Prelude.{ℕ, zero, suc, ◌<◌, min, List, [], map, get_or, length, replicate, Result, Ok, Err}
 use Rattle.word.specs.Buffer.{put}
 use Rattle.class.specs.declared.Info.{Info}
 use Rattle.class.specs.declared.Info.TheVariants.{Fixed}
@@ -12,9 +12,9 @@ use Rattle.scope.specs.Blocks.{Tabs, all, missing}
 use Rattle.scope.specs.declared.Scope.{Scope}
 use Rattle.scope.specs.declared.Scope.TheVariants as S
 
--- HOW MANY TABLES; a local has none
+-- HOW MANY TABLES; a local has none. A block has at most four tables; a count above 15 is taken as 15, so that it fits four bits
 unfoldable pub count_in : Scope → ℕ
-count_in (S.Block b) = b.count
+count_in (S.Block b) = min b.count 15
 count_in (S.Local l) = 0
 
 -- the record of table j
@@ -35,9 +35,10 @@ info_in (S.Local l) = l.info
 unfoldable pub local_scope : ℕ → Ty → Info → Scope
 local_scope m t i = S.Local (record { name = m; ty = t; info = i })
 
--- the entry of so many tables, by the numbers of their records
+-- the entry of so many tables, by the numbers of their records; of no tables it is that of a local named 0, of type null
 unfoldable pub block_scope : List ℕ → ℕ → Scope
-block_scope ws k = S.Block (record { tables = ws; count = k })
+block_scope ws zero = local_scope 0 T.Null (Fixed 0)
+block_scope ws (suc k) = S.Block (record { tables = ws; count = suc k })
 
 -- the numbers of the tables' records, where ss has that of each table of the catalogue
 abbrev pub places_of : List ℕ → List TabRef → List ℕ

@@ -21,15 +21,22 @@ pub fn local_scope(name: u16, ty: cell::Type, info: class::Info) -> Scope
     Scope::Local(Local { name, ty, info })
 }
 
-/// How many tables an entry has, at most four; a local has none.
+/// How many tables an entry says that it has, below 16; a local has none.
 #[tactic(auto, unfolding(crate::specs::Entry::count_in))]
+pub fn count_in(scope: Scope) -> u16
+    ensures { (result ≡ count_in scope) × (result < 16) }
+{
+    match scope {
+        Scope::Block(block) => u16::from(block.count.min(15)),
+        Scope::Local(_) => 0,
+    }
+}
+
+/// How many tables an entry has, at most four; a local has none.
 pub fn tables_in(scope: Scope) -> usize
     ensures { (result ≡ min (count_in scope) 4) × (result ≤ 4) }
 {
-    match scope {
-        Scope::Block(block) => usize::from(block.count.min(4)),
-        Scope::Local(_) => 0,
-    }
+    usize::from(count_in(scope).min(4))
 }
 
 // The record of a table of an entry, by its number, if the entry has so many.
@@ -78,6 +85,7 @@ pub fn table_number(
 
 // Stays: seven parameters are no plainer in a struct here, since crate catalogue's look-ups take `cat, n, starts, tables` one by one and each caller's struct of them holds more.
 /// The entry of a block whose TABLE records stand from record `at` on; or the number of the first of them whose table isn't in the catalogue.
+#[tactic(auto, using(crate::proofs::Opening::open_none))]
 pub fn open_block(
     cat: &[u8],
     n: usize,
@@ -93,6 +101,10 @@ pub fn open_block(
     requires count_bound { count ≤ 4 }
     ensures { result ≡ opened_by starts.now (tables_named (tables_from cat.now n n 0) (names_at view.now at count)) }
 {
+    // The entry of a block of no tables is that of a local named 0, of type null: an entry of tables has at least one.
+    if count == 0 {
+        return Ok(local_scope(0, cell::Type::Null, class::Info::Fixed(0)));
+    }
     let mut places = [0u16; 4];
     for j in 0..count {
         let Some(number) = table_number(cat, n, starts, tables, view, at + j) else {

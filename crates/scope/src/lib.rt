@@ -10,7 +10,8 @@ ghost use Rattle.scope.specs.Scopes.{find};
 ghost use Rattle.scope.specs.Table.{scopes_of, infos_of, found_of};
 
 pub use entry::{
-    block_class, local_scope, open_block, row_info, table_class_at, table_number, tables_in,
+    block_class, count_in, local_scope, open_block, row_info, table_class_at, table_number,
+    tables_in,
 };
 use names::Lookup;
 

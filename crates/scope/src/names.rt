@@ -8,7 +8,7 @@ ghost use Rattle.catalogue.specs.Tables.{column_at};
 ghost use Rattle.scope.specs.Scopes.{only_of, in_tabs, in_scope};
 ghost use Rattle.scope.specs.Entry.{info_in};
 ghost use Rattle.scope.specs.Table.{tabs_at, open_of};
-ghost use Rattle.scope.specs.Match.{found_in, FirstIs, MatchIs};
+ghost use Rattle.scope.specs.Match.{found_in, FirstIs, MatchIs, AnyIs};
 ghost use Rattle.scope.specs.declared.Scope.TheVariants as S;
 
 use crate::{Block, Found, Scope};
@@ -94,23 +94,38 @@ impl<'a> Lookup<'a> {
         }
     }
 
+    // Whether a table of a block, from number `from` on, has the name.
+    fn is_in_later(&self, block: &Block, from: usize) -> bool
+        ensures { AnyIs self.now.cat.now self.now.n (S.Block block.now) (min block.now.count 4) self.now.name self.now.qualifier from result }
+    {
+        for j in from..usize::from(block.count.min(4)) {
+            match self.in_table(usize::from(block.tables[j])) {
+                Matches::None => {}
+                _ => return true,
+            }
+        }
+        false
+    }
+
     // What the tables of a block have.
+    // Stays: the later tables are looked at once there is a match, and the answer is made then. With the answer so far kept through the loop it proves as well, and `find` took 1.46 to 1.64 times the instructions.
     fn in_block(&self, block: &Block, outward: u16) -> Found
         ensures { result ≡ found_in (Fixed 0) (only_of (in_tabs self.now.name self.now.qualifier outward 0 (tabs_at self.now.cat.now self.now.n (S.Block block.now) 0 (min block.now.count 4)))) }
     {
-        let mut found = Found::None;
         for j in 0..usize::from(block.count.min(4)) {
             let t = usize::from(block.tables[j]);
             match self.in_table(t) {
                 Matches::None => {}
-                Matches::One(i) => match found {
-                    Found::None => found = self.column_at(t, i, outward, j as u16),
-                    _ => return Found::Ambiguous,
-                },
+                Matches::One(i) => {
+                    if self.is_in_later(block, j + 1) {
+                        return Found::Ambiguous;
+                    }
+                    return self.column_at(t, i, outward, j as u16);
+                }
                 Matches::Several => return Found::Ambiguous,
             }
         }
-        found
+        Found::None
     }
 
     /// What one open scope has.
