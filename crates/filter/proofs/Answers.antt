@@ -141,6 +141,11 @@ module _ (c v s : List ℕ) (tables k q : ℕ) (files : Files c v s tables k q) 
           let (h, l, m) = rows_taken p p' rs rows u w in
           record { says = rw (e, runs.runs, h) (ap fine m); tree = given.holds; holds = rw (e, runs.runs, h) l }
 
+-- a tree has a record at least
+pub no_size : (t : SelectTree) → size_select t ≡ 0 → ⊥
+unfolding size_select
+no_size t e = omega arith
+
 -- no tree was given: the refusal stands, and the answer buffer is left
 pub both_refused : (c v : List ℕ) (k q : ℕ) (s o p o' : List ℕ) {i j : ℕ} → TreeGiven (tree_of c v k q (length o)) o o' (refusal i j) → BothGiven c v k q s o p o' p (refusal i j)
 unfolding result_by held_by

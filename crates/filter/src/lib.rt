@@ -2,7 +2,7 @@
 // The definitions are in specs/: Jobs has the order of refusals and what each buffer holds afterwards.
 #![tactic(auto)]
 
-ghost use Rattle.std.specs.Prelude.{◌≡◌, ℕ, length};
+ghost use Rattle.std.specs.Prelude.{◌≡◌, ◌+◌, ◌*◌, ◌≤◌, ◌<◌, ℕ, true, false, length};
 ghost use Rattle.catalogue.specs.Fault as fault;
 ghost use Rattle.store.specs.Layout as layout;
 ghost use Rattle.word.specs.Header.{count_at};
@@ -14,6 +14,14 @@ ghost use Rattle.filter.specs.Steps.{TreeGiven, BothGiven};
 
 use resolve::{Files, Source, Sums};
 use word::{Reason, Refusal};
+
+// Whether a tree of so many records has few enough, and a buffer of so many bytes takes its file.
+fn fits(size: usize, room: usize) -> bool
+    ensures yes { result ≡ true → (size ≤ 8190) × (8 + 8 * size ≤ room) }
+    ensures no { result ≡ false → size ≤ 8190 → room < 8 + 8 * size }
+{
+    size <= 8190 && 8 + 8 * size <= room
+}
 
 // The number of records of the tree of a resolved view, whose parts take so many records, with the notes and ends that were left of it; the tree is
 // in its buffer. Refused if it needs more records than 8,190 or than the buffer holds.
@@ -31,7 +39,7 @@ fn written(
     ensures { TreeGiven (tree_fits (length tree.old) (tree_in source.now q)) tree.old tree.new (said result) }
 {
     let size = label::measure(source, q, sums);
-    if size <= 8190 && 8 + 8 * size <= tree.len() {
+    if fits(size, tree.len()) {
         label::write_tree(source, q, size as u16, notes, ends, tree);
         Ok(size)
     } else {
@@ -54,6 +62,9 @@ fn tree_of(
     requires { fault.check_of cat.now ≡ fine tables }
     ensures { TreeGiven (tree_of cat.now view.now k q (length tree.old)) tree.old tree.new (said result) }
 {
+    // The notes and ends are made first: after a `?` they would be cleared twice, once at the entry.
+    let mut notes = [0u64; 1024];
+    let mut ends = [0u64; 33];
     let n = view::check(view)?;
     let nc = usize::from(word::u16_at(cat, 6));
     let starts = catalogue::starts(cat, nc);
@@ -63,8 +74,6 @@ fn tree_of(
         view,
         files: Files { nc, tables, n, k },
     };
-    let mut notes = [0u64; 1024];
-    let mut ends = [0u64; 33];
     let sums = resolve::whole(&source, &mut notes, &mut ends)?;
     written(&source, sums, q, &notes, &ends, tree)
 }

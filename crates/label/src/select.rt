@@ -176,6 +176,7 @@ fn write_file(
     notes: &[u64],
     ends: &[u64],
     writer: &mut Writer,
+    pad: &mut [u64; 1024],
 )
     requires viewed { ViewedIn source.now }
     requires left_view { LeftViewIn source.now notes.now ends.now }
@@ -196,7 +197,6 @@ fn write_file(
         deep: 1,
         depth: 15,
     };
-    let mut pad = [0u64; 1024];
     writer.header(b"DRT\0", count);
     writer.put(Record {
         a: tables,
@@ -207,17 +207,9 @@ fn write_file(
     write_tests(s, source.cat, source.files.nc, q, m, writer);
     let end = ends[0];
     let first = end_in(end);
-    write_where_test(&level, 1 + m, known_in(end), q, writer, &mut pad);
+    write_where_test(&level, 1 + m, known_in(end), q, writer, pad);
     tree::write_noted(view, notes, 1 + m, first, writer);
-    write_pairs(
-        &level,
-        first,
-        values as usize,
-        notes,
-        ends,
-        writer,
-        &mut pad,
-    );
+    write_pairs(&level, first, values as usize, notes, ends, writer, pad);
 }
 
 /// The whole tree of an accepted view, under clearance q, with the notes and ends that were left of it, into a buffer that has room for its `count` records.
@@ -236,8 +228,10 @@ pub fn write_tree(
     requires room { Room out.old 0 (tree_file (tree_in source.now q)) }
     ensures { Wrote out.old 0 (tree_file (tree_in source.now q)) out.new result }
 {
+    // The pad is made first: a function that makes it later clears it twice.
+    let mut pad = [0u64; 1024];
     let mut writer = Writer { out, at: 0 };
-    write_file(source, q, count, notes, ends, &mut writer);
+    write_file(source, q, count, notes, ends, &mut writer, &mut pad);
     writer.at
 }
 

@@ -116,16 +116,16 @@ fn end_of(code: &[u8], ends: &[u16; 8192], i: usize) -> u16
     next as u16
 }
 
-// The end of each tree, from the last of n records to the first.
-pub fn ends_of(code: &[u8], n: usize) -> [u16; 8192]
-    requires { (8 + 8 * n ≤ length code.now) × (n ≤ 8190) }
-    ensures { EndsAre code.now n result }
+// The end of each tree, from the last of n records to the first, into `ends`: it is lent, since an array that is handed out may be made in one place and copied to another.
+pub fn ends_of(code: &[u8], n: usize, ends: &mut [u16; 8192])
+    requires inside { (8 + 8 * n ≤ length code.now) × (n ≤ 8190) }
+    requires long { length ends.old ≡ 8192 }
+    ensures { EndsAre code.now n ends.new }
 {
-    let mut ends = [0u16; 8192];
     for i in (0..n).rev() {
-        ends[i] = end_of(code, &ends, i);
+        let end = end_of(code, ends, i);
+        ends[i] = end;
     }
-    ends
 }
 
 // Where the second child of record i stands.
@@ -178,16 +178,21 @@ fn word_at(code: &[u8], ends: &[u16; 8192], lays: &[u64; 32], i: usize) -> u64
     word_of(kind, op, a, b, c)
 }
 
-// The words of n records.
-pub fn words_of(code: &[u8], n: usize, ends: &[u16; 8192], lays: &[u64; 32]) -> [u64; 8192]
-    requires { (8 + 8 * n ≤ length code.now) × (n ≤ 8190) × (length ends.now ≡ 8192) × (length lays.now ≡ 32) }
-    ensures { WordsAre code.now n ends.now lays.now result }
+// The words of n records, into `words`, lent as `ends` is to `ends_of`.
+pub fn words_of(
+    code: &[u8],
+    n: usize,
+    ends: &[u16; 8192],
+    lays: &[u64; 32],
+    words: &mut [u64; 8192],
+)
+    requires inside { (8 + 8 * n ≤ length code.now) × (n ≤ 8190) × (length ends.now ≡ 8192) × (length lays.now ≡ 32) }
+    requires long { length words.old ≡ 8192 }
+    ensures { WordsAre code.now n ends.now lays.now words.new }
 {
-    let mut words = [0u64; 8192];
     for i in 0..n {
         words[i] = word_at(code, ends, lays, i);
     }
-    words
 }
 
 // The word of a table, by where its rows stand.

@@ -5,7 +5,7 @@ use Rattle.run.proofs.Ends.{filled_start, filled_more}
 use Rattle.run.proofs.words.ends_of.Goals as goal
 
 pub loop-i-init : goal.loop-i-init
-loop-i-init c = filled_start _ _
+loop-i-init c = filled_start _ _ _ c.requires.long
 
 pub loop-i-preserved : goal.loop-i-preserved
 loop-i-preserved c = search (filled_more, rules)
