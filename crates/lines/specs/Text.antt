@@ -1,7 +1,8 @@
 -- What a line of a text is, and which number of 16 bits a part of it says.
 -- Assumes nothing.
-use Rattle.std.specs.Prelude.{ℕ, zero, suc, ◌+◌, ◌-◌, ◌*◌, min, Option, Some, None, Bool, cond, ◌&&◌, List, [], ◌∷◌, eqb, ltb, leb, length, get_or, take, drop}
+use Rattle.std.specs.Prelude.{ℕ, zero, suc, ◌+◌, ◌-◌, ◌*◌, ◌≤◌, ◌≡◌, min, Option, Some, None, Bool, cond, ◌&&◌, List, [], ◌∷◌, eqb, ltb, leb, length, get_or, take, drop}
 use Rattle.std.specs.List.{list_all, position_or_len}
+use Rattle.lines.specs.declared.Line.{Line}
 
 -- the first line end (byte 10) at a place or after it, or the end
 unfoldable pub line_end : List ℕ → ℕ → ℕ
@@ -17,11 +18,24 @@ line_start text (suc j) at = line_start text j (min (line_end text at + 1) (leng
 unfoldable pub line_close : List ℕ → ℕ → ℕ → ℕ
 line_close text start end = cond (ltb start end && eqb (get_or text (end - 1) 0) 13) (end - 1) end
 
--- the text of line number j, counted from 0
+-- the part of a text where a line stands
+abbrev pub part_of : List ℕ → Line → List ℕ
+part_of text l = take (l.end - l.start) (drop l.start text)
+
+-- line number j of a text, counted from 0
+unfoldable pub line_of : List ℕ → ℕ → Line
+line_of text j =
+    record { start = line_start text j 0; end = line_close text (line_start text j 0) (line_end text (line_start text j 0)) }
+
+-- its text
 unfoldable pub line_text : List ℕ → ℕ → List ℕ
-line_text text j =
-    let start = line_start text j 0 in
-    take (line_close text start (line_end text start) - start) (drop start text)
+line_text text j = part_of text (line_of text j)
+
+-- what is promised of line number j: which it is, and that it is a part of the text
+pub record Within (text : List ℕ) (j : ℕ) (r : Line) : Type 0 where
+  pub is : r ≡ line_of text j
+  pub ordered : r.start ≤ r.end
+  pub inside : r.end ≤ length text
 
 -- a decimal digit
 abbrev pub is_digit : ℕ → Bool

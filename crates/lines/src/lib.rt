@@ -1,22 +1,29 @@
 // The lines of a text, the numbers and the files that they name, and numbers, spaces and line ends on a writer.
-// The definitions are in specs/: Text says what a line and a number are, Counts how many bytes came.
+// The definitions are in specs/: Text says what a line and a number are, Counts how many bytes came, Shown what is printed of a refusal.
 //
 // A read that fails counts as the end of its input. A write that fails is the only error that a function here answers: the
 // writer's own, passed on. What was written before it stays written, and of the writer no more is said, as `std` says no more.
 #![tactic(auto)]
 
-ghost use Rattle.std.specs.Prelude.{◌≡◌, ◌+◌, ◌-◌, ◌*◌, ◌≤◌, ◌<◌, ◌∷◌, [], ◌++◌, length, replicate, decimal, OnOk};
+ghost use Rattle.std.specs.Prelude.{◌≡◌, ◌+◌, ◌-◌, ◌*◌, ◌≤◌, ◌<◌, length, replicate, OnOk};
 ghost use Rattle.std.specs.Fmt.{signed_decimal};
 ghost use Rattle.std.specs.Io.KnownBytes.{Appends};
 ghost use Rattle.word.specs.Bytes.{signed32};
-ghost use Rattle.word.specs.Refusal.{number_of as number_of_reason};
 ghost use Rattle.lines.specs.Counts.{IsPrefixLen};
-ghost use Rattle.lines.specs.Text.{line_end, line_start, line_close, line_text, number_of};
+ghost use Rattle.lines.specs.Shown.{refusal_line};
+ghost use Rattle.lines.specs.Text.{line_end, line_start, line_close, line_text, number_of, Within};
 
 use std::io::{self, Read, Write};
 use std::rt::Files;
 use std::{fs, str};
 use word::Refusal;
+
+/// Where a line stands in a text: from start to end, without its line end.
+#[derive(Clone, Copy, PartialEq, Eq, Debug)]
+pub struct Line {
+    pub start: usize,
+    pub end: usize,
+}
 
 // The first line end at a place or after it; the end of the text where there is none.
 #[tactic(auto, unfolding(crate::specs::Text::line_end))]
@@ -60,13 +67,22 @@ fn line_close(text: &[u8], start: usize, end: usize) -> usize
     }
 }
 
-/// Line number j of a text, counted from 0, without its line end; an empty one where the text has fewer lines.
-#[tactic(auto, unfolding(crate::specs::Text::line_text))]
-pub fn line(text: &[u8], j: usize) -> &[u8]
-    ensures { result.now ≡ line_text text.now j }
+/// Where line number j of a text stands, counted from 0; an empty one at the end of a text that has fewer lines.
+#[tactic(auto, unfolding(crate::specs::Text::line_of))]
+pub fn find_line(text: &[u8], j: usize) -> Line
+    ensures { Within text.now j result }
 {
     let start = line_start(text, j);
     let end = line_close(text, start, line_end(text, start));
+    Line { start, end }
+}
+
+/// Line number j of a text, counted from 0, without its line end; an empty one where the text has fewer lines.
+#[tactic(auto, unfolding(crate::specs::Text::line_text))]
+pub fn line_text(text: &[u8], j: usize) -> &[u8]
+    ensures { result.now ≡ line_text text.now j }
+{
+    let Line { start, end } = find_line(text, j);
     &text[start..end]
 }
 
@@ -94,7 +110,7 @@ pub fn read_number(s: &[u8]) -> Option<u16>
 pub fn number_on(text: &[u8], j: usize) -> Option<u16>
     ensures { result ≡ number_of (line_text text.now j) }
 {
-    read_number(line(text, j))
+    read_number(line_text(text, j))
 }
 
 /// Zeros for a buffer. The clause gives its length, which lending it as a slice needs where it is over 65,536.
@@ -142,7 +158,7 @@ pub fn load_on<R: Files>(rt: &R, text: &[u8], j: usize, buf: &mut [u8]) -> usize
     ensures count { IsPrefixLen result buf.new }
     ensures same_length { length buf.new ≡ length buf.old }
 {
-    load(rt, line(text, j), buf)
+    load(rt, line_text(text, j), buf)
 }
 
 /// Writes the signed number that 32 bits say.
@@ -154,7 +170,7 @@ pub fn print_signed<W: Write>(out: &mut W, n: u32) -> io::Result<()>
 
 /// Writes a refusal as a line: its number and its place.
 pub fn print_refusal<W: Write>(out: &mut W, refusal: Refusal) -> io::Result<()>
-    ensures { OnOk result (Appends (W.contents out.old) (W.contents out.new) (decimal (number_of_reason refusal.reason) ++ 32 ∷ decimal refusal.place ++ 10 ∷ [])) }
+    ensures { OnOk result (Appends (W.contents out.old) (W.contents out.new) (refusal_line refusal)) }
 {
     writeln!(out, "{} {}", refusal.reason.number(), refusal.place)
 }

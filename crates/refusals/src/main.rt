@@ -2,6 +2,10 @@
 // Order: catalogue, store (Answer only), view: its structure, then its names and types. It ends whatever the input is: the cases are counted.
 #![tactic(auto)]
 
+ghost use Rattle.std.specs.Prelude.{OnOk};
+ghost use Rattle.std.specs.Io.KnownBytes.{Appends};
+ghost use Rattle.refusals.specs.Shown.{found_line};
+
 use cases::{Case, Files};
 use resolve::Source;
 use std::io::{self, Read, Write};
@@ -33,6 +37,16 @@ fn first(case: Case, files: Files) -> Result<(), Refusal> {
     of_view(files.cat, files.view, case.k)
 }
 
+// Writes the refusal of a case as a line, or 0 0.
+fn show<W: Write>(to: &mut W, found: Result<(), Refusal>) -> io::Result<()>
+    ensures { OnOk result (Appends (W.contents to.old) (W.contents to.new) (found_line found)) }
+{
+    match found {
+        Ok(()) => writeln!(to, "0 0"),
+        Err(refusal) => lines::print_refusal(to, refusal),
+    }
+}
+
 // Reads the files of a case and shows its refusal.
 fn run<R: Read, W: Write>(from: &mut R, to: &mut W, case: Case) -> io::Result<()> {
     let mut cat: [u8; 66000] = lines::zeros();
@@ -46,10 +60,7 @@ fn run<R: Read, W: Write>(from: &mut R, to: &mut W, case: Case) -> io::Result<()
         view: &view[..v],
         store: &store[..s],
     };
-    match first(case, files) {
-        Ok(()) => writeln!(to, "0 0"),
-        Err(refusal) => lines::print_refusal(to, refusal),
-    }
+    show(to, first(case, files))
 }
 
 // One case; whether there was one.

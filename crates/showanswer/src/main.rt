@@ -5,25 +5,43 @@
 // than any that is accepted, the bytes that fit the buffer are refused as the whole file is. An answer over 1,048,576 bytes is 41 0.
 #![tactic(auto)]
 
-ghost use Rattle.std.specs.Prelude.{◌≡◌, length};
+ghost use Rattle.std.specs.Prelude.{◌≡◌, ◌≤◌, ◌*◌, ◌/◌, min, max, length, drop, OnOk};
+ghost use Rattle.std.specs.Io.KnownBytes.{Appends};
+ghost use Rattle.showanswer.specs.Shown.{cell_text, row_line, row_lines};
 
 use std::io::{self, Write};
 use std::rt::Files;
 
+// Writes a cell: its mark, its class and its value.
+fn print_cell<W: Write>(to: &mut W, cell: &[u8]) -> io::Result<()>
+    requires { 8 ≤ length cell.now }
+    ensures { OnOk result (Appends (W.contents to.old) (W.contents to.new) (cell_text cell.now)) }
+{
+    write!(to, "{} {} ", cell[0], word::u16_at(cell, 2))?;
+    lines::print_signed(to, word::u32_at(cell, 4))
+}
+
 // Writes the cells of a row, eight bytes each, two spaces between them.
-fn row<W: Write>(to: &mut W, cells: &[u8]) -> io::Result<()> {
+#[tactic(auto, unfolding(crate::specs::Shown::cell_texts))]
+fn row<W: Write>(to: &mut W, cells: &[u8]) -> io::Result<()>
+    ensures { OnOk result (Appends (W.contents to.old) (W.contents to.new) (row_line cells.now)) }
+{
     for (j, cell) in cells.chunks_exact(8).enumerate() {
         if j > 0 {
             to.write_all(b"  ")?;
         }
-        write!(to, "{} {} ", cell[0], word::u16_at(cell, 2))?;
-        lines::print_signed(to, word::u32_at(cell, 4))?;
+        print_cell(to, cell)?;
     }
     writeln!(to)
 }
 
-// Writes so many rows of an answer; a row has a cell at least.
-fn rows<W: Write>(to: &mut W, out: &[u8], count: usize, columns: u16) -> io::Result<()> {
+// Writes so many rows of an answer, as far as it has them; a row has a cell at least.
+#[tactic(auto, unfolding(crate::specs::Shown::row_lines))]
+fn rows<W: Write>(to: &mut W, out: &[u8], count: usize, columns: u16) -> io::Result<()>
+    ensures { let size = 8 * max columns 1 in
+        let cells = drop 8 out.now in
+        OnOk result (Appends (W.contents to.old) (W.contents to.new) (row_lines size cells (min count (length cells / size)))) }
+{
     let Some(cells) = out.get(8..) else {
         return Ok(());
     };

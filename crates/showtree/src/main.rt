@@ -5,15 +5,29 @@
 // any that is accepted, the bytes that fit the buffer are refused as the whole file is.
 #![tactic(auto)]
 
+ghost use Rattle.std.specs.Prelude.{◌-◌, ◌/◌, min, length, OnOk};
+ghost use Rattle.std.specs.Io.KnownBytes.{Appends};
+ghost use Rattle.showtree.specs.Shown.{record_line, record_lines};
+
 use std::io::{self, Write};
 use std::rt::Files;
 use word::Record;
 
+// Writes a record as a line.
+fn print_record<W: Write>(to: &mut W, shown: Record) -> io::Result<()>
+    ensures { OnOk result (Appends (W.contents to.old) (W.contents to.new) (record_line shown)) }
+{
+    let Record { kind, op, a, b, c } = shown;
+    writeln!(to, "{kind} {op} {a} {b} {c}")
+}
+
 // Writes so many records of a tree, as far as it has them.
-fn records<W: Write>(to: &mut W, tree: &[u8], count: usize) -> io::Result<()> {
+#[tactic(auto, unfolding(crate::specs::Shown::record_lines))]
+fn records<W: Write>(to: &mut W, tree: &[u8], count: usize) -> io::Result<()>
+    ensures { OnOk result (Appends (W.contents to.old) (W.contents to.new) (record_lines tree.now (min count (length tree.now / 8 - 1)))) }
+{
     for i in 0..count.min((tree.len() / 8).saturating_sub(1)) {
-        let Record { kind, op, a, b, c } = word::record_at(tree, i);
-        writeln!(to, "{kind} {op} {a} {b} {c}")?;
+        print_record(to, word::record_at(tree, i))?;
     }
     Ok(())
 }

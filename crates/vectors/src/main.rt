@@ -2,17 +2,18 @@
 // each filled with a pattern before. It ends whatever the input is: the cases are counted.
 #![tactic(auto)]
 
+ghost use Rattle.std.specs.Prelude.{OnOk};
+ghost use Rattle.std.specs.Io.KnownBytes.{Appends};
+ghost use Rattle.vectors.specs.Shown.{case_line};
+
 use cases::{Case, Files};
 use std::io::{self, Read, Write};
 use word::Refusal;
 
 // Writes what a job gave back, and the digests of the tree's and of the answer's buffer.
-fn show<W: Write>(
-    to: &mut W,
-    given: Result<usize, Refusal>,
-    tree: u64,
-    out: u64,
-) -> io::Result<()> {
+fn show<W: Write>(to: &mut W, given: Result<usize, Refusal>, tree: u64, out: u64) -> io::Result<()>
+    ensures { OnOk result (Appends (W.contents to.old) (W.contents to.new) (case_line given tree out)) }
+{
     let (number, place, count) = match given {
         Ok(count) => (0, 0, count),
         Err(refusal) => (refusal.reason.number(), refusal.place, 0),

@@ -1,0 +1,3 @@
+-- What is printed of an answer.
+-- Assumes nothing.
+pub mod Shown

@@ -1,0 +1,3 @@
+-- The law of what is printed of a tree.
+-- Assumes nothing.
+pub mod Laws

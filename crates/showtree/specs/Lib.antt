@@ -1,0 +1,3 @@
+-- What is printed of a tree.
+-- Assumes nothing.
+pub mod Shown

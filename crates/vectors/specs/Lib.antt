@@ -1,0 +1,3 @@
+-- What is printed of a case.
+-- Assumes nothing.
+pub mod Shown
