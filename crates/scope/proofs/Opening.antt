@@ -64,8 +64,13 @@ module _ (c : List ℕ) (n : ℕ) (ss : List ℕ) (tables : ℕ) (v : List ℕ) 
     unfolding found_at ref_of
     open_again k e = x ∙ rw (tabs_next j h, g, e) (one_more ws j (record { num = k; table = table_at c n (get_or ss k 0) }) (tabs_left (j + 1)))
 
-  pub open_done : (ws : List ℕ) (j : ℕ) (X : Result Scope ℕ) → (count ≡ 0 → ⊥) → X ≡ open_from ss ws j (tabs_left j) → count ≤ j → j ≤ count → Ok (S.Block (record { tables = ws; count = count })) ≡ X
+  -- no table is left: the entry of so many tables
+  pub open_done : (ws : List ℕ) (j : ℕ) (X : Result Scope ℕ) → X ≡ open_from ss ws j (tabs_left j) → count ≤ j → j ≤ count → Ok (block_scope ws count) ≡ X
   unfolding open_from tabs_left names_at tables_named put
-  open_done ws j X m x h l = let e : count - j ≡ 0 = omega arith in let f : j + 0 ≡ count = omega arith in sym (x ∙ rw (e, f) (ap Ok (block_entry ws count (omega arith))))
+  open_done ws j X x h l = let e : count - j ≡ 0 = omega arith in let f : j + 0 ≡ count = omega arith in sym (x ∙ rw (e, f))
 
-pub ruleset opens = (open_begin, open_missing, open_again, open_done, rules)
+  -- of one table or more it is a block's
+  pub block_done : (ws : List ℕ) (j : ℕ) (X : Result Scope ℕ) → (count ≡ 0 → ⊥) → X ≡ open_from ss ws j (tabs_left j) → count ≤ j → j ≤ count → Ok (S.Block (record { tables = ws; count = count })) ≡ X
+  block_done ws j X m x h l = ap Ok (sym (block_entry ws count (omega arith))) ∙ open_done ws j X x h l
+
+pub ruleset opens = (open_begin, open_missing, open_again, block_done, rules)
